@@ -1,0 +1,14 @@
+//! What everything else stands on: the outside as two traits, a budget, and shared values.
+#![tactic(auto)]
+
+mod files;
+mod meter;
+mod row;
+mod shared;
+mod sink;
+
+pub use files::{Files, ReadEnd};
+pub use meter::Meter;
+pub use row::Row;
+pub use shared::Shared;
+pub use sink::{PutFailed, Sink};
