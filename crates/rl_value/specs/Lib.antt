@@ -1,0 +1,9 @@
+pub mod Built
+pub mod Falls
+pub mod Laws
+pub mod Order
+pub mod Plain
+pub mod Readers
+pub mod Rising
+pub mod Rose
+pub mod View

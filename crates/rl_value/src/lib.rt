@@ -1,0 +1,15 @@
+//! Shared, immutable values.
+#![tactic(auto)]
+
+pub mod build;
+pub mod build_end;
+pub mod kind;
+pub mod readers;
+pub mod shape;
+pub mod value;
+
+pub use build::{int, leaf, list, location, node, text, tree, truth, tuple};
+pub use build_end::BuildEnd;
+pub use kind::Kind;
+pub use shape::{Role, Scheme, Shape};
+pub use value::Value;
