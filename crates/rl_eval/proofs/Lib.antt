@@ -1,0 +1,6 @@
+pub mod Laws
+pub mod Growth
+pub mod StepLemmas
+pub mod TokenLemmas
+pub mod SourceLemmas
+pub mod Whole

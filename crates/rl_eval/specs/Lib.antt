@@ -1,0 +1,9 @@
+pub mod Tokens
+pub mod NextToken
+pub mod Source
+pub mod Rule
+pub mod Rules
+pub mod Evaluation
+pub mod Frames
+pub mod Derivation
+pub mod Ending

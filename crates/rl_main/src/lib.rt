@@ -1,0 +1,10 @@
+//! The job of the command: from its words to what it prints and the status that it ends with.
+#![tactic(auto)]
+
+mod command;
+mod load;
+mod status;
+mod words;
+
+pub use command::run;
+pub use status::Status;
