@@ -1,5 +1,7 @@
 pub mod Faults
+pub mod FileTable
 pub mod Holds
+pub mod MemFiles
 pub mod ReadAnswer
 pub mod Told
 pub mod formers

@@ -1,13 +1,16 @@
 //! What everything else stands on: the outside as two traits, a budget, and shared values.
 #![tactic(auto)]
 
+mod file_table;
 mod files;
+mod mem_files;
 mod meter;
 mod row;
 mod shared;
 mod sink;
 
 pub use files::{Files, ReadEnd};
+pub use mem_files::MemFiles;
 pub use meter::Meter;
 pub use row::Row;
 pub use shared::Shared;
