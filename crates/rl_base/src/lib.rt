@@ -4,6 +4,7 @@
 mod file_table;
 mod files;
 mod mem_files;
+mod mem_sink;
 mod meter;
 mod row;
 mod shared;
@@ -11,6 +12,7 @@ mod sink;
 
 pub use files::{Files, ReadEnd};
 pub use mem_files::MemFiles;
+pub use mem_sink::MemSink;
 pub use meter::Meter;
 pub use row::Row;
 pub use shared::Shared;
