@@ -1,6 +1,7 @@
 pub mod Faults
 pub mod FileTable
 pub mod Holds
+pub mod HostFiles
 pub mod MemFiles
 pub mod MemSink
 pub mod ReadAnswer

@@ -3,6 +3,8 @@
 
 mod file_table;
 mod files;
+mod host_files;
+mod host_sink;
 mod mem_files;
 mod mem_sink;
 mod meter;
@@ -11,6 +13,8 @@ mod shared;
 mod sink;
 
 pub use files::{Files, ReadEnd};
+pub use host_files::HostFiles;
+pub use host_sink::HostSink;
 pub use mem_files::MemFiles;
 pub use mem_sink::MemSink;
 pub use meter::Meter;

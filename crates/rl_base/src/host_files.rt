@@ -1,0 +1,94 @@
+ghost use Rattle.std.specs.Prelude.{◌≡◌, ◌≤◌, ℕ, None, IfOk, IsErrOf, vec_len};
+ghost use Rattle.rl_base.specs.Faults.{Rose};
+ghost use Rattle.rl_base.specs.HostFiles.{faults_after_read};
+ghost use Rattle.rl_base.specs.ReadAnswer.{ReadAnswer};
+
+use crate::files::{Files, ReadEnd};
+use std::alloc::Global;
+use std::io::{Error, ErrorKind, Read};
+use std::marker::Model;
+use std::{fs, rt};
+
+/// The files of the machine. What they hold is not told: contracts see only the count of faults.
+///
+/// A file that does not exist is Missing. Every other fault of the machine is Failed, as a folder
+/// in the place of a file, or a path through a file. Want of memory is OutOfMemory. Each Failed
+/// raises the faults, a `u64` that stays at its last value.
+#[derive(Drop)]
+pub struct HostFiles<R> {
+    runtime: R,
+    faults: u64,
+}
+
+impl<R> Model for HostFiles<R> {
+    ghost Value = { ℕ };
+
+    ghost view = { λ files. files.faults };
+}
+
+impl<R: rt::Files> HostFiles<R> {
+    pub fn new(runtime: R) -> HostFiles<R>
+        ensures { result ≡ 0 }
+    {
+        HostFiles { runtime, faults: 0 }
+    }
+}
+
+impl<R: rt::Files> Files for HostFiles<R> {
+    ghost holds = { λ _. None };
+
+    ghost faults = { λ faults. faults };
+
+    /// Reads no more than one byte past the limit.
+    fn read(&mut self, alloc: Global, path: &str, limit: u32) -> Result<Vec<u8>, ReadEnd>
+        // The faults rise at each Failed, and at no other answer.
+        ensures faults { self.new ≡ faults_after_read self.old result }
+
+        // What every reader of files promises.
+        ensures counted { self.old ≤ self.new }
+        ensures answer { ReadAnswer None path.now limit result }
+        ensures short { IfOk result (λ bytes. vec_len bytes ≤ limit) }
+        ensures failed { IsErrOf result ReadEnd.Failed → Rose self.old self.new }
+    {
+        let answer = read_file(&self.runtime, alloc, path, limit);
+        if let Err(ReadEnd::Failed) = &answer {
+            self.faults = self.faults.saturating_add(1);
+        }
+        answer
+    }
+}
+
+fn read_file<R: rt::Files>(
+    runtime: &R,
+    alloc: Global,
+    path: &str,
+    limit: u32,
+) -> Result<Vec<u8>, ReadEnd>
+    ensures { IfOk result (λ bytes. vec_len bytes ≤ limit) }
+{
+    let file = fs::open(runtime, path).map_err(|error| open_end(&error))?;
+    let mut bytes = Vec::new(alloc);
+    file.take(u64::from(limit) + 1)
+        .read_to_end(&mut bytes)
+        .map_err(|error| read_end(&error))?;
+    if bytes.len() > limit as usize {
+        return Err(ReadEnd::TooLong);
+    }
+    Ok(bytes)
+}
+
+/// What it means that a file was not opened.
+fn open_end(error: &Error) -> ReadEnd {
+    match error.kind() {
+        ErrorKind::NotFound => ReadEnd::Missing,
+        _ => read_end(error),
+    }
+}
+
+/// What it means that an open file was not read.
+fn read_end(error: &Error) -> ReadEnd {
+    match error.kind() {
+        ErrorKind::OutOfMemory => ReadEnd::OutOfMemory,
+        _ => ReadEnd::Failed,
+    }
+}

@@ -1,0 +1,72 @@
+ghost use Rattle.std.specs.Prelude.{◌≡◌, ◌≤◌, ℕ, None, OnErr, OnOk, is_err, if◌then◌else◌};
+ghost use Rattle.rl_base.specs.Faults.{Rose, count_after};
+ghost use Rattle.rl_base.specs.Told.{told_after, TakesPart};
+
+use crate::sink::{PutFailed, Sink};
+use std::io::{ErrorKind, Write};
+use std::marker::Model;
+
+/// A writer of the machine as a sink. What it was told is not told: contracts see only the count
+/// of faults.
+///
+/// A write that fails, that takes nothing of a piece that is not empty, or a flush that fails is a
+/// fault. Each PutFailed raises the faults, a `u64` that stays at its last value.
+#[derive(Drop)]
+pub struct HostSink<W> {
+    writer: W,
+    faults: u64,
+}
+
+impl<W> Model for HostSink<W> {
+    ghost Value = { ℕ };
+
+    ghost view = { λ sink. sink.faults };
+}
+
+impl<W: Write> HostSink<W> {
+    pub fn new(writer: W) -> HostSink<W>
+        ensures { result ≡ 0 }
+    {
+        HostSink { writer, faults: 0 }
+    }
+}
+
+impl<W: Write> Sink for HostSink<W> {
+    ghost told = { λ _. None };
+
+    ghost faults = { λ faults. faults };
+
+    /// Writes until the whole piece is taken, and then flushes the writer.
+    fn put(&mut self, piece: &[u8]) -> Result<(), PutFailed>
+        // The faults rise at each failure, and at no other put.
+        ensures faults { self.new ≡ (if is_err result then count_after self.old else self.old) }
+
+        // What every sink promises.
+        ensures counted { self.old ≤ self.new }
+        ensures failed { OnErr result (Rose self.old self.new) }
+    {
+        if write_piece(&mut self.writer, piece) {
+            return Ok(());
+        }
+        self.faults = self.faults.saturating_add(1);
+        Err(PutFailed)
+    }
+}
+
+/// Whether the writer took the whole piece.
+fn write_piece<W: Write>(writer: &mut W, piece: &[u8]) -> bool {
+    let mut rest = piece;
+    // The bound ends the loop where a writer is interrupted for ever.
+    for _ in 0..u64::MAX {
+        if rest.is_empty() {
+            return writer.flush().is_ok();
+        }
+        match writer.write(rest) {
+            Ok(0) => return false,
+            Ok(taken) => rest = &rest[taken..],
+            Err(error) if error.kind() == ErrorKind::Interrupted => {}
+            Err(_) => return false,
+        }
+    }
+    false
+}
