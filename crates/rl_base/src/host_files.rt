@@ -92,3 +92,39 @@ fn read_end(error: &Error) -> ReadEnd {
         _ => ReadEnd::Failed,
     }
 }
+
+#[cfg(test)]
+mod tests {
+    use super::*;
+    use std::env;
+    use std::test::Fail;
+
+    #[test]
+    fn reads_a_file_of_the_machine(rt: HostRuntime) -> Result<(), Fail> {
+        let folder = env::temp_dir(&rt)?;
+        let folder = folder.as_path().to_str().ok_or("no folder")?;
+        let path = format!(in rt.alloc(); "{folder}/rl_base_reads_a_file")?;
+        let through = format!(in rt.alloc(); "{path}/inner")?;
+        let missing = format!(in rt.alloc(); "{path}_missing")?;
+        fs::write(&rt, path.as_str(), "hello")?;
+        let mut files = HostFiles::new(rt.clone()?);
+        let rows: [(&str, u32, Result<&[u8], ReadEnd>); 6] = [
+            (path.as_str(), 5, Ok(b"hello")),
+            (path.as_str(), 4, Err(ReadEnd::TooLong)),
+            (path.as_str(), u32::MAX, Ok(b"hello")),
+            (missing.as_str(), 5, Err(ReadEnd::Missing)),
+            (through.as_str(), 5, Err(ReadEnd::Failed)),
+            (folder, 5, Err(ReadEnd::Failed)),
+        ];
+        for (path, limit, want) in rows {
+            match (files.read(rt.alloc(), path, limit), want) {
+                (Ok(bytes), Ok(want)) => assert_eq!(rt; bytes.as_slice(), want, "at {path}"),
+                (Err(end), Err(want)) => assert_eq!(rt; end, want, "at {path} {limit}"),
+                _ => panic!(rt; "at {path} {limit}"),
+            }
+        }
+        assert_eq!(rt; files.faults, 2);
+        fs::remove_file(&rt, path.as_str())?;
+        Ok(())
+    }
+}

@@ -70,3 +70,54 @@ fn write_piece<W: Write>(writer: &mut W, piece: &[u8]) -> bool {
     }
     false
 }
+
+#[cfg(test)]
+mod tests {
+    use super::*;
+    use std::io;
+    use std::test::Fail;
+
+    /// A writer in memory that takes two bytes at a time, and at last none.
+    #[derive(Drop)]
+    struct Narrow {
+        taken: Vec<u8>,
+        left: usize,
+        flushes: u8,
+    }
+
+    impl Write for Narrow {
+        fn write(&mut self, buf: &[u8]) -> io::Result<usize> {
+            let count = buf.len().min(2).min(self.left);
+            self.taken.extend_from_slice(&buf[..count])?;
+            self.left -= count;
+            Ok(count)
+        }
+
+        fn flush(&mut self) -> io::Result<()> {
+            self.flushes = self.flushes.wrapping_add(1);
+            Ok(())
+        }
+    }
+
+    #[test]
+    fn writes_each_piece_whole_or_fails(rt: HostRuntime) -> Result<(), Fail> {
+        let mut sink = HostSink::new(Narrow {
+            taken: Vec::new(rt.alloc()),
+            left: 6,
+            flushes: 0,
+        });
+        let rows: [(&[u8], bool, &[u8], u8, u64); 4] = [
+            (b"abcde", true, b"abcde", 1, 0),
+            (b"", true, b"abcde", 2, 0),
+            (b"fg", false, b"abcdef", 2, 1),
+            (b"h", false, b"abcdef", 2, 2),
+        ];
+        for (piece, put, taken, flushes, faults) in rows {
+            assert_eq!(rt; sink.put(piece).is_ok(), put, "after {taken:?}");
+            assert_eq!(rt; sink.writer.taken.as_slice(), taken);
+            assert_eq!(rt; sink.writer.flushes, flushes);
+            assert_eq!(rt; sink.faults, faults);
+        }
+        Ok(())
+    }
+}

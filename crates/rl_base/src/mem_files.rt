@@ -112,3 +112,38 @@ impl Files for MemFiles {
         self.files.read(alloc, path, limit)
     }
 }
+
+#[cfg(test)]
+mod tests {
+    use super::*;
+    use std::test::Fail;
+
+    #[test]
+    fn reads_what_was_added_and_fails_at_the_given_numbers(rt: HostRuntime) -> Result<(), Fail> {
+        let mut files = MemFiles::new(rt.alloc());
+        files.add("a", b"one")?;
+        files.add("b", b"")?;
+        files.add("a", b"three")?;
+        files.fail_at(5)?;
+        files.fail_at(4)?;
+        let rows: [(&str, u32, Result<&[u8], ReadEnd>); 8] = [
+            ("a", 5, Ok(b"three")),
+            ("a", 4, Err(ReadEnd::TooLong)),
+            ("c", 5, Err(ReadEnd::Missing)),
+            ("a", 5, Err(ReadEnd::Failed)),
+            ("c", 5, Err(ReadEnd::Failed)),
+            ("a", 6, Ok(b"three")),
+            ("b", 0, Ok(b"")),
+            ("A", 5, Err(ReadEnd::Missing)),
+        ];
+        for (path, limit, want) in rows {
+            match (files.read(rt.alloc(), path, limit), want) {
+                (Ok(bytes), Ok(want)) => assert_eq!(rt; bytes.as_slice(), want, "at {path}"),
+                (Err(end), Err(want)) => assert_eq!(rt; end, want, "at {path} {limit}"),
+                _ => panic!(rt; "at {path} {limit}"),
+            }
+        }
+        assert_eq!(rt; files.faults, 2);
+        Ok(())
+    }
+}

@@ -98,3 +98,30 @@ impl Sink for MemSink {
         Err(PutFailed)
     }
 }
+
+#[cfg(test)]
+mod tests {
+    use super::*;
+    use std::test::Fail;
+
+    #[test]
+    fn takes_what_fits_and_fails_at_the_given_numbers(rt: HostRuntime) -> Result<(), Fail> {
+        let fails = [(2, 1), (2, 2), (4, 9)];
+        let mut sink = MemSink::new(rt.alloc(), 6, &fails)?;
+        let rows: [(&[u8], bool, &[u8]); 7] = [
+            (b"ab", true, b"ab"),
+            (b"xyz", false, b"abx"),
+            (b"c", true, b"abxc"),
+            (b"d", false, b"abxcd"),
+            (b"", true, b"abxcd"),
+            (b"efg", false, b"abxcde"),
+            (b"", true, b"abxcde"),
+        ];
+        for (piece, taken, told) in rows {
+            assert_eq!(rt; sink.put(piece).is_ok(), taken, "after {told:?}");
+            assert_eq!(rt; sink.bytes(), told);
+        }
+        assert_eq!(rt; sink.faults, 3);
+        Ok(())
+    }
+}

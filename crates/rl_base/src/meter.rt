@@ -44,3 +44,17 @@ impl Meter {
         self.units
     }
 }
+
+#[cfg(test)]
+mod tests {
+    use super::*;
+
+    #[test]
+    fn gives_each_unit_once(rt: HostRuntime) {
+        let mut meter = Meter::new(2);
+        for (given, left) in [(true, 1), (true, 0), (false, 0)] {
+            assert_eq!(rt; meter.take(), given);
+            assert_eq!(rt; meter.left(), left);
+        }
+    }
+}
