@@ -1,4 +1,5 @@
-ghost use Rattle.std.specs.Prelude.{◌≡◌, ◌≤◌, ℕ, None, IfOk, IsErrOf, vec_len};
+ghost use Rattle.std.specs.Prelude.{◌≡◌, ◌≢◌, ◌≤◌, ◌↔◌, ◌⊎◌, ℕ, None, IfOk, IsErrOf, vec_len};
+ghost use Rattle.std.specs.IoError.{error_kind};
 ghost use Rattle.rl_base.specs.Faults.{Rose};
 ghost use Rattle.rl_base.specs.HostFiles.{faults_after_read};
 ghost use Rattle.rl_base.specs.ReadAnswer.{ReadAnswer};
@@ -78,7 +79,11 @@ fn read_file<R: rt::Files>(
 }
 
 /// What it means that a file was not opened.
-fn open_end(error: &Error) -> ReadEnd {
+fn open_end(error: &Error) -> ReadEnd
+    ensures missing { result ≡ ReadEnd.Missing ↔ error_kind error.now ≡ ErrorKind.NotFound }
+    ensures memory { result ≡ ReadEnd.OutOfMemory ↔ error_kind error.now ≡ ErrorKind.OutOfMemory }
+    ensures never { result ≢ ReadEnd.TooLong }
+{
     match error.kind() {
         ErrorKind::NotFound => ReadEnd::Missing,
         _ => read_end(error),
@@ -86,7 +91,10 @@ fn open_end(error: &Error) -> ReadEnd {
 }
 
 /// What it means that an open file was not read.
-fn read_end(error: &Error) -> ReadEnd {
+fn read_end(error: &Error) -> ReadEnd
+    ensures memory { result ≡ ReadEnd.OutOfMemory ↔ error_kind error.now ≡ ErrorKind.OutOfMemory }
+    ensures failed { result ≡ ReadEnd.Failed ⊎ result ≡ ReadEnd.OutOfMemory }
+{
     match error.kind() {
         ErrorKind::OutOfMemory => ReadEnd::OutOfMemory,
         _ => ReadEnd::Failed,

@@ -1,6 +1,7 @@
-ghost use Rattle.std.specs.Prelude.{◌≡◌, ◌≤◌, ℕ, None, OnErr, OnOk, is_err, if◌then◌else◌};
+ghost use Rattle.std.specs.Prelude.{◌≡◌, ◌≤◌, ℕ, None, OnErr, is_err, if◌then◌else◌};
+ghost use Rattle.std.specs.Bool.{OnTrue};
+ghost use Rattle.std.specs.Io.KnownBytes.{Appends};
 ghost use Rattle.rl_base.specs.Faults.{Rose, count_after};
-ghost use Rattle.rl_base.specs.Told.{told_after, TakesPart};
 
 use crate::sink::{PutFailed, Sink};
 use std::io::{ErrorKind, Write};
@@ -54,7 +55,9 @@ impl<W: Write> Sink for HostSink<W> {
 }
 
 /// Whether the writer took the whole piece.
-fn write_piece<W: Write>(writer: &mut W, piece: &[u8]) -> bool {
+fn write_piece<W: Write>(writer: &mut W, piece: &[u8]) -> bool
+    ensures { OnTrue result (Appends (W.contents writer.old) (W.contents writer.new) piece.now) }
+{
     let mut rest = piece;
     // The bound ends the loop where a writer is interrupted for ever.
     for _ in 0..u64::MAX {
