@@ -1,3 +1,4 @@
 pub mod Counts
+pub mod Examples
 pub mod FilesAt
 pub mod Growth

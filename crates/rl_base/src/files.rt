@@ -44,3 +44,20 @@ pub trait Files {
         ensures short { IfOk result (λ bytes. vec_len bytes ≤ limit) }
         ensures failed { IsErrOf result ReadEnd.Failed → Rose (faults self.old) (faults self.new) };
 }
+
+#[cfg(test)]
+pub(crate) mod tests {
+    use super::*;
+
+    /// An answer is the one that is wanted.
+    pub(crate) fn is_answer(
+        answer: &Result<Vec<u8>, ReadEnd>,
+        want: &Result<&[u8], ReadEnd>,
+    ) -> bool {
+        match (answer, want) {
+            (Ok(bytes), Ok(want)) => bytes.as_slice() == *want,
+            (Err(end), Err(want)) => end == want,
+            _ => false,
+        }
+    }
+}

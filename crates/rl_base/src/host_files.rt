@@ -2,7 +2,6 @@ ghost use Rattle.std.specs.Prelude.{◌≡◌, ◌≢◌, ◌≤◌, ◌↔◌, 
 ghost use Rattle.std.specs.IoError.{error_kind};
 ghost use Rattle.rl_base.specs.Faults.{Rose};
 ghost use Rattle.rl_base.specs.HostFiles.{faults_after_read};
-ghost use Rattle.rl_base.specs.ReadAnswer.{ReadAnswer};
 
 use crate::files::{Files, ReadEnd};
 use std::alloc::Global;
@@ -47,7 +46,6 @@ impl<R: rt::Files> Files for HostFiles<R> {
 
         // What every reader of files promises.
         ensures counted { self.old ≤ self.new }
-        ensures answer { ReadAnswer None path.now limit result }
         ensures short { IfOk result (λ bytes. vec_len bytes ≤ limit) }
         ensures failed { IsErrOf result ReadEnd.Failed → Rose self.old self.new }
     {
@@ -104,32 +102,26 @@ fn read_end(error: &Error) -> ReadEnd
 #[cfg(test)]
 mod tests {
     use super::*;
-    use std::env;
+    use crate::files::tests::is_answer;
+    use std::process;
     use std::test::Fail;
 
     #[test]
-    fn reads_a_file_of_the_machine(rt: HostRuntime) -> Result<(), Fail> {
-        let folder = env::temp_dir(&rt)?;
-        let folder = folder.as_path().to_str().ok_or("no folder")?;
-        let path = format!(in rt.alloc(); "{folder}/rl_base_reads_a_file")?;
-        let through = format!(in rt.alloc(); "{path}/inner")?;
-        let missing = format!(in rt.alloc(); "{path}_missing")?;
+    fn reads_files_of_the_machine(rt: HostRuntime) -> Result<(), Fail> {
+        let path = format!(in rt.alloc(); "/tmp/rl_base_{}", process::id(rt.process()))?;
         fs::write(&rt, path.as_str(), "hello")?;
         let mut files = HostFiles::new(rt.clone()?);
         let rows: [(&str, u32, Result<&[u8], ReadEnd>); 6] = [
             (path.as_str(), 5, Ok(b"hello")),
             (path.as_str(), 4, Err(ReadEnd::TooLong)),
-            (path.as_str(), u32::MAX, Ok(b"hello")),
-            (missing.as_str(), 5, Err(ReadEnd::Missing)),
-            (through.as_str(), 5, Err(ReadEnd::Failed)),
-            (folder, 5, Err(ReadEnd::Failed)),
+            ("/dev/zero", 3, Err(ReadEnd::TooLong)),
+            ("/dev/missing", 9, Err(ReadEnd::Missing)),
+            ("/dev/null/inner", 9, Err(ReadEnd::Failed)),
+            ("/dev", 9, Err(ReadEnd::Failed)),
         ];
         for (path, limit, want) in rows {
-            match (files.read(rt.alloc(), path, limit), want) {
-                (Ok(bytes), Ok(want)) => assert_eq!(rt; bytes.as_slice(), want, "at {path}"),
-                (Err(end), Err(want)) => assert_eq!(rt; end, want, "at {path} {limit}"),
-                _ => panic!(rt; "at {path} {limit}"),
-            }
+            let answer = files.read(rt.alloc(), path, limit);
+            assert!(rt; is_answer(&answer, &want), "at {path} {limit}");
         }
         assert_eq!(rt; files.faults, 2);
         fs::remove_file(&rt, path.as_str())?;

@@ -116,6 +116,7 @@ impl Files for MemFiles {
 #[cfg(test)]
 mod tests {
     use super::*;
+    use crate::files::tests::is_answer;
     use std::test::Fail;
 
     #[test]
@@ -137,11 +138,8 @@ mod tests {
             ("A", 5, Err(ReadEnd::Missing)),
         ];
         for (path, limit, want) in rows {
-            match (files.read(rt.alloc(), path, limit), want) {
-                (Ok(bytes), Ok(want)) => assert_eq!(rt; bytes.as_slice(), want, "at {path}"),
-                (Err(end), Err(want)) => assert_eq!(rt; end, want, "at {path} {limit}"),
-                _ => panic!(rt; "at {path} {limit}"),
-            }
+            let answer = files.read(rt.alloc(), path, limit);
+            assert!(rt; is_answer(&answer, &want), "at {path} {limit}");
         }
         assert_eq!(rt; files.faults, 2);
         Ok(())
