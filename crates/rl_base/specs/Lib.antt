@@ -2,6 +2,7 @@ pub mod Faults
 pub mod FileTable
 pub mod Holds
 pub mod HostFiles
+pub mod HostSink
 pub mod MemFiles
 pub mod MemSink
 pub mod ReadAnswer

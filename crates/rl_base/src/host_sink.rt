@@ -1,14 +1,15 @@
-ghost use Rattle.std.specs.Prelude.{◌≡◌, ◌≤◌, ℕ, None, OnErr, is_err, if◌then◌else◌};
-ghost use Rattle.std.specs.Bool.{OnTrue};
+ghost use Rattle.std.specs.Prelude.{◌≡◌, ◌≤◌, None, OnOk, OnErr, is_err, if◌then◌else◌};
+ghost use Rattle.std.specs.Bool.{OnTrue, OnFalse};
 ghost use Rattle.std.specs.Io.KnownBytes.{Appends};
 ghost use Rattle.rl_base.specs.Faults.{Rose, count_after};
+ghost use Rattle.rl_base.specs.HostSink.{AppendsPart};
 
 use crate::sink::{PutFailed, Sink};
 use std::io::{ErrorKind, Write};
 use std::marker::Model;
 
-/// A writer of the machine as a sink. What it was told is not told: contracts see only the count
-/// of faults.
+/// A writer of the machine as a sink, which contracts see as the writer and the count of faults.
+/// As a sink it does not say what it was told. What the writer says of its bytes holds.
 ///
 /// A write that fails, that takes nothing of a piece that is not empty, or a flush that fails is a
 /// fault. Each PutFailed raises the faults, a `u64` that stays at its last value.
@@ -19,14 +20,18 @@ pub struct HostSink<W> {
 }
 
 impl<W> Model for HostSink<W> {
-    ghost Value = { ℕ };
+    ghost use Rattle.rl_base.specs.HostSink.{SinkOver, sink_over_code};
 
-    ghost view = { λ sink. sink.faults };
+    ghost Value = { SinkOver W };
+
+    ghost coded = { sink_over_code W.code };
+
+    ghost view = { λ sink. record { writer = sink.writer; faults = sink.faults } };
 }
 
 impl<W: Write> HostSink<W> {
     pub fn new(writer: W) -> HostSink<W>
-        ensures { result ≡ 0 }
+        ensures { result ≡ record { writer = writer; faults = 0 } }
     {
         HostSink { writer, faults: 0 }
     }
@@ -35,16 +40,20 @@ impl<W: Write> HostSink<W> {
 impl<W: Write> Sink for HostSink<W> {
     ghost told = { λ _. None };
 
-    ghost faults = { λ faults. faults };
+    ghost faults = { λ sink. sink.faults };
 
     /// Writes until the whole piece is taken, and then flushes the writer.
     fn put(&mut self, piece: &[u8]) -> Result<(), PutFailed>
+        // Where the writer says what it holds, it grows by the piece, or by a front of it.
+        ensures written { OnOk result (Appends (W.contents self.old.writer) (W.contents self.new.writer) piece.now) }
+        ensures cut { OnErr result (AppendsPart (W.contents self.old.writer) (W.contents self.new.writer) piece.now) }
+
         // The faults rise at each failure, and at no other put.
-        ensures faults { self.new ≡ (if is_err result then count_after self.old else self.old) }
+        ensures faults { self.new.faults ≡ (if is_err result then count_after self.old.faults else self.old.faults) }
 
         // What every sink promises.
-        ensures counted { self.old ≤ self.new }
-        ensures failed { OnErr result (Rose self.old self.new) }
+        ensures counted { self.old.faults ≤ self.new.faults }
+        ensures failed { OnErr result (Rose self.old.faults self.new.faults) }
     {
         if write_piece(&mut self.writer, piece) {
             return Ok(());
@@ -56,7 +65,8 @@ impl<W: Write> Sink for HostSink<W> {
 
 /// Whether the writer took the whole piece.
 fn write_piece<W: Write>(writer: &mut W, piece: &[u8]) -> bool
-    ensures { OnTrue result (Appends (W.contents writer.old) (W.contents writer.new) piece.now) }
+    ensures whole { OnTrue result (Appends (W.contents writer.old) (W.contents writer.new) piece.now) }
+    ensures cut { OnFalse result (AppendsPart (W.contents writer.old) (W.contents writer.new) piece.now) }
 {
     let mut rest = piece;
     // The bound ends the loop where a writer is interrupted for ever.
