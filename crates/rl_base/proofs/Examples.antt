@@ -1,5 +1,5 @@
 -- Worked examples of the definitions, which compute.
-use Rattle.std.proofs.Common.{◌≡◌, ℕ, List, [], ◌∷◌, Some, None, Ok, Err, refl}
+use Rattle.std.proofs.Common.{◌≡◌, [], ◌∷◌, Some, None, Ok, Err, refl}
 use Rattle.rl_base.specs.Told.{told_after}
 use Rattle.rl_base.specs.Faults.{last_count, count_after}
 use Rattle.rl_base.specs.ReadAnswer.{answer_of}

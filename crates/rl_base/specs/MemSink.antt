@@ -1,5 +1,5 @@
 -- A sink in memory, with puts that fail.
-use Rattle.std.specs.Prelude.{ℕ, ◌+◌, ◌-◌, Bool, ◌==◌, ◌||◌, nat_lt, min, if◌then◌else◌, List, ◌++◌, length, take, find, Option, is_some, unwrap_or, refl}
+use Rattle.std.specs.Prelude.{ℕ, ◌-◌, Bool, ◌==◌, ◌||◌, nat_lt, min, if◌then◌else◌, List, ◌++◌, length, take, find, Option, is_some, unwrap_or, refl}
 use Rattle.std.specs.Option.{option_map}
 use Rattle.std.specs.Coded.{Coded, code_by, coded×, coded_list, coded_ℕ}
 use Rattle.rl_base.specs.Faults.{count_after}

@@ -1,4 +1,3 @@
-use Rattle.std.proofs.Common.{◌≡◌, rules}
 use Rattle.rl_base.proofs.FilesAt.{files_of-insert}
 use Rattle.rl_base.proofs.file_table.FileTable.set.Goals as goal
 
