@@ -1,0 +1,4 @@
+pub mod EntryLemmas
+pub mod LevelsLemmas
+pub mod OrderLemmas
+pub mod RisingLemmas

@@ -1,6 +1,8 @@
 pub mod Built
+pub mod Entries
 pub mod Falls
 pub mod Laws
+pub mod Levels
 pub mod Order
 pub mod Plain
 pub mod Readers

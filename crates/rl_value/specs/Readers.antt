@@ -55,3 +55,8 @@ span_of t = None
 abbrev pub parts_of : Plain → List Plain
 parts_of (tree shape ts) = items_of ts
 parts_of t = []
+
+-- the bytes of a leaf, and none of another value
+abbrev pub leaf_bytes : Plain → List ℕ
+leaf_bytes (leaf bytes) = bytes
+leaf_bytes t = []

@@ -4,6 +4,8 @@
 pub mod build;
 pub mod build_end;
 pub mod kind;
+mod leaves;
+mod order;
 pub mod readers;
 pub mod shape;
 pub mod value;

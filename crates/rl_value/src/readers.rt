@@ -1,7 +1,7 @@
 ghost use Rattle.std.specs.Prelude.{◌≡◌, ◌<◌, length, slice_get, All, Some};
 ghost use Rattle.std.specs.Option.{option_copied, option_map};
 ghost use Rattle.rl_value.specs.Plain.{IsPart};
-ghost use Rattle.rl_value.specs.Readers.{kind_of, as_bool, as_int, as_text, name_of, shape_in, scheme_of, path_of, span_of, parts_of};
+ghost use Rattle.rl_value.specs.Readers.{kind_of, as_bool, as_int, as_text, name_of, shape_in, scheme_of, path_of, span_of, parts_of, leaf_bytes};
 ghost use Rattle.rl_value.specs.View.{shape_of};
 
 use crate::kind::Kind;
@@ -102,6 +102,28 @@ impl Value {
         match &self.form {
             Form::Location(place) => place.span,
             _ => None,
+        }
+    }
+
+    /// The parts of a syntax tree as they stand, and none of another value.
+    #[tactic(auto, using(crate::specs::Plain::back))]
+    pub(crate) fn parts(&self) -> &[Value]
+        ensures items { result.now ≡ parts_of self.now }
+        ensures parts { All IsPart result.now }
+    {
+        match &self.form {
+            Form::Tree(tree) => tree.parts.items.as_slice(),
+            _ => &[],
+        }
+    }
+
+    /// The bytes of a leaf, and none of another value.
+    pub(crate) fn leaf_bytes(&self) -> &[u8]
+        ensures { result.now ≡ leaf_bytes self.now }
+    {
+        match &self.form {
+            Form::Leaf(text) => text.as_bytes(),
+            _ => &[],
         }
     }
 }
