@@ -1,4 +1,5 @@
 pub mod EntryLemmas
+pub mod KidsLemmas
 pub mod LevelsLemmas
 pub mod OrderLemmas
 pub mod RisingLemmas

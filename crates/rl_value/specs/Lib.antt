@@ -1,6 +1,7 @@
 pub mod Built
 pub mod Entries
 pub mod Falls
+pub mod Kids
 pub mod Laws
 pub mod Levels
 pub mod Order

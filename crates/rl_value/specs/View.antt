@@ -2,6 +2,7 @@
 use Rattle.std.specs.Prelude.{◌≡◌, ℕ, List, map, All}
 use Rattle.std.specs.Rc.{rc_str_bytes}
 use Rattle.rl_value.specs.Order.{plain_cmp}
+use Rattle.rl_value.specs.Kids.{kid_ends}
 use Rattle.rl_value.specs.Rising.{Rises}
 use Rattle.rl_value.specs.Plain.{Shape, Plain, bool, int, text, location, tuple, list, set, mapping, node, tree, leaf, Plains, Pairs, plains_of, pairs_of, plain_size, plain_height, Fits, IsPart}
 use Rattle.rl_value.specs.declared.value.Form.{Form}
@@ -66,5 +67,8 @@ IsRight (f.Map entries) =
     IsMeasured (mapping (pairs_in entries.value)) entries.value.size entries.value.height
     × Rises plain_cmp (map (λ e. e.key) entries.value.pairs.items)
 IsRight (f.Node a) = IsMeasured (node_of a.value) a.value.fields.size a.value.fields.height
-IsRight (f.Tree a) = IsMeasured (tree_of a.value) a.value.parts.size a.value.parts.height × All IsPart a.value.parts.items.items
+IsRight (f.Tree a) =
+    IsMeasured (tree_of a.value) a.value.parts.size a.value.parts.height
+    × All IsPart a.value.parts.items.items
+    × (a.value.kid_ends.items ≡ kid_ends 0 a.value.parts.items.items)
 IsRight (f.Leaf t) = Fits (leaf (rc_str_bytes t))

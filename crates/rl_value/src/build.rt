@@ -5,6 +5,7 @@ ghost use Rattle.rl_value.specs.View.{shape_of, pair_of};
 ghost use Rattle.rl_value.specs.Built.{Builds};
 
 use crate::build_end::BuildEnd;
+use crate::kids::kid_ends;
 use crate::shape::{Scheme, Shape};
 use crate::value::{Branch, Constructor, Form, Parts, Place, Value};
 use std::alloc::Global;
@@ -122,10 +123,17 @@ pub fn list(alloc: Global, vs: Vec<Value>) -> Result<Value, BuildEnd>
 pub fn node(alloc: Global, name: &str, kids: Vec<Value>) -> Result<Value, BuildEnd>
     ensures { Builds (node name.now (plains_of kids.items)) result }
 {
+    let name = RcStr::from_str(alloc, name)?;
+    node_of(alloc, name, kids)
+}
+
+/// The same from a name that is shared.
+pub(crate) fn node_of(alloc: Global, name: RcStr, kids: Vec<Value>) -> Result<Value, BuildEnd>
+    ensures { Builds (node (rc_str_bytes name) (plains_of kids.items)) result }
+{
     match measure(&kids) {
         None => Err(BuildEnd::TooLarge),
         Some((size, height)) => {
-            let name = RcStr::from_str(alloc, name)?;
             let fields = Parts {
                 size,
                 height,
@@ -147,12 +155,20 @@ pub fn tree(alloc: Global, shape: Shape, parts: Vec<Value>) -> Result<Value, Bui
     match measure(&parts) {
         None => Err(BuildEnd::TooLarge),
         Some((size, height)) => {
+            let kid_ends = kid_ends(alloc, &parts)?;
             let parts = Parts {
                 size,
                 height,
                 items: parts,
             };
-            let tree = Rc::new(alloc, Branch { shape, parts })?;
+            let tree = Rc::new(
+                alloc,
+                Branch {
+                    shape,
+                    parts,
+                    kid_ends,
+                },
+            )?;
             Ok(Value {
                 form: Form::Tree(tree),
             })

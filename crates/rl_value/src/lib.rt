@@ -4,6 +4,7 @@
 pub mod build;
 pub mod build_end;
 pub mod kind;
+mod kids;
 mod leaves;
 mod order;
 pub mod readers;

@@ -60,6 +60,8 @@ pub(crate) struct Constructor {
 pub(crate) struct Branch {
     pub(crate) shape: Shape,
     pub(crate) parts: Parts,
+    /// For each part, how many kids the parts up to it give.
+    pub(crate) kid_ends: Vec<u32>,
 }
 
 /// A key of a map, with its value.
