@@ -1,5 +1,5 @@
 -- The values directly inside a value, and the value with others in their place.
-use Rattle.std.specs.Prelude.{ℕ, ◌+◌, Bool, true, false, List, [], ◌∷◌, ◌++◌, length, drop}
+use Rattle.std.specs.Prelude.{ℕ, zero, suc, get_or, ◌+◌, Bool, true, false, List, [], ◌∷◌, ◌++◌, length, drop}
 use Rattle.rl_value.specs.declared.shape.Role.{Role}
 use Rattle.rl_value.specs.declared.shape.Role.TheVariants.{Syntax, Lexical, Layout, Keyword, Rep, Opt}
 use Rattle.rl_value.specs.Plain.{Plain, bool, int, text, location, tuple, list, set, mapping, node, tree, leaf, Plains, nil, cons, Pairs, no_pairs, pair, plains_of, items_of, pairs_of}
@@ -43,6 +43,11 @@ kids t = []
 abbrev pub kid_ends : ℕ → List Plain → List ℕ
 kid_ends n [] = []
 kid_ends n (t ∷ ts) = (n + length (part_kids t)) ∷ kid_ends (n + length (part_kids t)) ts
+
+-- how many kids stand before part j, and n before all parts
+abbrev pub before : ℕ → List ℕ → ℕ → ℕ
+before n ends zero = n
+before n ends (suc j) = get_or ends j 0
 
 -- whether a part gives what is inside it
 abbrev pub is_opened : Plain → Bool

@@ -177,7 +177,7 @@ pub fn tree(alloc: Global, shape: Shape, parts: Vec<Value>) -> Result<Value, Bui
 }
 
 /// The size and the height of a value with these inside, unless a limit is passed.
-fn measure(items: &[Value]) -> Option<(u32, u32)>
+pub(crate) fn measure(items: &[Value]) -> Option<(u32, u32)>
     ensures { MatchOption result
         ((2 ^ 24 < 1 + plains_size (plains_of items.now)) ⊎ (2000 < 1 + plains_height (plains_of items.now)))
         (λ m. (m.0 ≡ 1 + plains_size (plains_of items.now)) × (m.1 ≡ 1 + plains_height (plains_of items.now))

@@ -1,7 +1,7 @@
-ghost use Rattle.std.specs.Prelude.{◌≡◌, ◌≤◌, ◌<◌, ◌^◌, ◌+◌, ◌-◌, IfOk, map, IsTrue, ◌↔◌, length, slice_get, slice_index, Some};
-ghost use Rattle.rl_value.specs.Plain.{plains_of, plains_size, pairs_of, pairs_size};
+ghost use Rattle.std.specs.Prelude.{◌≡◌, ◌≤◌, ◌<◌, ◌^◌, ◌+◌, ◌-◌, IfOk, map, IsTrue, ◌↔◌, length, [], slice_get, slice_index, slice_index_or, Some};
+ghost use Rattle.rl_value.specs.Plain.{leaf, IsPart, IsTree, plains_of, plains_size, pairs_of, pairs_size};
 ghost use Rattle.rl_value.specs.Readers.{parts_of};
-ghost use Rattle.rl_value.specs.Kids.{kids, part_kids, parts_kids, pairs_kids, kid_ends, is_opened};
+ghost use Rattle.rl_value.specs.Kids.{kids, part_kids, parts_kids, pairs_kids, kid_ends, is_opened, before};
 ghost use Rattle.rl_value.specs.View.{pair_of};
 
 use crate::shape::Role;
@@ -22,6 +22,54 @@ impl Value {
             Form::Tree(tree) => last_end(&tree.kid_ends, &tree.parts.items),
             Form::Bool(_) | Form::Int(_) | Form::Text(_) | Form::Location(_) | Form::Leaf(_) => 0,
         }
+    }
+
+    /// The value at this place directly inside, counted from 0 as `child_count` counts.
+    #[tactic(auto, using(crate::specs::Plain::back))]
+    pub fn child(&self, i: u32) -> &Value
+        requires { i < length (kids self.now) }
+        ensures value { slice_get (kids self.now) i ≡ Some result.now }
+        ensures tree { IsTree self.now → IsTree result.now }
+    {
+        match &self.form {
+            Form::Tree(tree) => {
+                let place = place_in(&tree.kid_ends, &tree.parts.items, i);
+                let part = &tree.parts.items[place.part];
+                if part.is_opened() {
+                    part.child(place.inside)
+                } else {
+                    part
+                }
+            }
+            Form::Tuple(parts) | Form::List(parts) | Form::Set(parts) => nth(&parts.items, i),
+            Form::Map(entries) => nth_of_pairs(&entries.pairs, i),
+            Form::Node(node) => nth(&node.fields.items, i),
+            Form::Bool(_) | Form::Int(_) | Form::Text(_) | Form::Location(_) | Form::Leaf(_) => {
+                unreachable!()
+            }
+        }
+    }
+
+    /// How many parts a syntax tree has: leaves, layout, repetitions and options among them. It is 0 for
+    /// another value.
+    #[tactic(auto, using(crate::specs::Plain::back))]
+    pub fn part_count(&self) -> u32
+        ensures { result ≡ length (parts_of self.now) }
+    {
+        match &self.form {
+            Form::Tree(tree) => count(&tree.parts.items),
+            _ => 0,
+        }
+    }
+
+    /// The part of a syntax tree at this place, counted from 0.
+    pub fn part(&self, i: u32) -> &Value
+        requires { i < length (parts_of self.now) }
+        ensures value { slice_get (parts_of self.now) i ≡ Some result.now }
+        ensures part { IsPart result.now }
+    {
+        let parts = self.parts();
+        &parts[i as usize]
     }
 
     /// Whether a part of a tree gives what is inside it.
@@ -61,6 +109,21 @@ fn count(items: &[Value]) -> u32
     items.len() as u32
 }
 
+fn nth(items: &[Value], i: u32) -> &Value
+    requires { i < length items.now }
+    ensures { slice_get items.now i ≡ Some result.now }
+{
+    &items[i as usize]
+}
+
+fn nth_of_pairs(pairs: &[Entry], i: u32) -> &Value
+    requires { i < length (pairs_kids (pairs_of (map pair_of pairs.now))) }
+    ensures { slice_get (pairs_kids (pairs_of (map pair_of pairs.now))) i ≡ Some result.now }
+{
+    let entry = &pairs[(i / 2) as usize];
+    if i % 2 == 0 { &entry.key } else { &entry.value }
+}
+
 #[tactic(auto, using(crate::proofs::KidsLemmas::pairs_le_size, crate::proofs::KidsLemmas::count_pairs_kids))]
 fn count_pairs(pairs: &[Entry]) -> u32
     requires { pairs_size (pairs_of (map pair_of pairs.now)) < 2 ^ 24 }
@@ -78,6 +141,58 @@ fn last_end(ends: &[u32], parts: &[Value]) -> u32
         Some(end) => *end,
         None => 0,
     }
+}
+
+/// The part of a tree in which one of its kids stands, and the kid's place inside that part.
+#[derive(Clone, Copy)]
+struct Place {
+    part: usize,
+    inside: u32,
+}
+
+/// Where the kid at place i stands.
+fn place_in(ends: &[u32], parts: &[Value], i: u32) -> Place
+    requires ends { ends.now ≡ kid_ends 0 parts.now }
+    requires within { i < length (parts_kids (plains_of parts.now)) }
+    ensures part { result.part < length parts.now }
+    ensures inside { result.inside < length (part_kids (slice_index_or parts.now result.part (leaf []))) }
+    ensures kid { slice_get (parts_kids (plains_of parts.now)) i ≡ slice_get (part_kids (slice_index_or parts.now result.part (leaf []))) result.inside }
+{
+    let part = first_after(ends, i);
+    let before = before(ends, part);
+    Place {
+        part,
+        inside: i - before,
+    }
+}
+
+/// How many kids the parts before this one give.
+fn before(ends: &[u32], part: usize) -> u32
+    requires { part ≤ length ends.now }
+    ensures { result ≡ before 0 ends.now part }
+{
+    if part == 0 { 0 } else { ends[part - 1] }
+}
+
+/// The place of the first end after i, by halving.
+fn first_after(ends: &[u32], i: u32) -> usize
+    requires some { 0 < length ends.now }
+    requires within { i < slice_index ends.now (length ends.now - 1) }
+    ensures bound { result < length ends.now }
+    ensures after { i < slice_index ends.now result }
+    ensures before { 0 < result → slice_index ends.now (result - 1) ≤ i }
+{
+    let mut low = 0;
+    let mut high = ends.len() - 1;
+    while low < high {
+        let mid = low + (high - low) / 2;
+        if ends[mid] <= i {
+            low = mid + 1;
+        } else {
+            high = mid;
+        }
+    }
+    low
 }
 
 /// For each part, how many kids the parts up to it give.

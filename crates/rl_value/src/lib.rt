@@ -3,8 +3,9 @@
 
 pub mod build;
 pub mod build_end;
-pub mod kind;
+pub mod collect;
 mod kids;
+pub mod kind;
 mod leaves;
 mod order;
 pub mod readers;
@@ -13,6 +14,7 @@ pub mod value;
 
 pub use build::{int, leaf, list, location, node, text, tree, truth, tuple};
 pub use build_end::BuildEnd;
+pub use collect::{map, set};
 pub use kind::Kind;
 pub use shape::{Role, Scheme, Shape};
 pub use value::Value;

@@ -11,8 +11,12 @@ pub loop-part-preserved : goal.loop-part-preserved
 loop-part-preserved c =
     record {
       ends =
-          rw (c.in_ok-push.ensures.items, append_assoc, c.given_kids-count.ensures,
-              ← ends_at c.loop-part.count c.args.parts.now c.loop-part.part-index c.part-item.result c.loop-part-test.true c.part-item.is)
+          rw (
+            c.in_ok-push.ensures.items,
+            append_assoc,
+            c.given_kids-count.ensures,
+            ← ends_at c.loop-part.count c.args.parts.now c.loop-part.part-index c.part-item.result c.loop-part-test.true c.part-item.is,
+          )
           c.loop-part.invariant.ends;
       bound = omega (arith, part_kids_le c.part-item.result, size_at c.args.parts.now c.loop-part.part-index c.part-item.result c.loop-part-test.true c.part-item.is);
     }
