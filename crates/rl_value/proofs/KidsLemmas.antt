@@ -1,9 +1,9 @@
 -- The kids of syntax trees, and how many there are.
-use Rattle.std.proofs.Common.{◌≡◌, ℕ, zero, suc, ◌+◌, ◌-◌, ◌*◌, ◌<◌, ◌≤◌, ◌^◌, List, [], ◌∷◌, ◌++◌, length, map, Option, Some, None, slice_get, refl, ap, sym, subst, ◌∙◌, arith, add_assoc, length-append, unwrap_or, get_or, drop, drop-cons, add-one, append_assoc, Bool, true, false}
+use Rattle.std.proofs.Common.{◌≡◌, ℕ, zero, suc, ◌+◌, ◌-◌, ◌*◌, ◌<◌, ◌≤◌, List, [], ◌∷◌, ◌++◌, length, map, Option, Some, slice_get, refl, ap, sym, ◌∙◌, arith, length-append, unwrap_or, get_or, drop, drop-cons, add-one, true, false}
 use Rattle.std.proofs.lemmas.Option.{unwrap_or-slice_get}
 use Rattle.rl_value.specs.declared.shape.Role.{Role}
 use Rattle.rl_value.specs.declared.shape.Role.TheVariants.{Syntax, Lexical, Layout, Keyword, Rep, Opt}
-use Rattle.rl_value.specs.Plain.{Plain, bool, int, text, location, tuple, list, set, mapping, node, tree, leaf, Plains, nil, cons, plains_of, pairs_of, plain_size, plains_size, pairs_size, IsPart, IsTree}
+use Rattle.rl_value.specs.Plain.{Plain, bool, tree, leaf, Plains, nil, cons, plains_of, pairs_of, plain_size, plains_size, pairs_size, IsPart, IsTree}
 use Rattle.rl_value.specs.Kids.{by_role, before, is_opened, kids, part_kids, parts_kids, pairs_kids, kid_ends}
 use Rattle.rl_value.specs.View.{pair_of}
 use Rattle.rl_value.specs.declared.value.Entry.{Entry}

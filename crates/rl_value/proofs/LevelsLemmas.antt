@@ -1,9 +1,9 @@
 -- Steps of a walk over the leaves of a syntax tree.
-use Rattle.std.proofs.Common.{subst, ◌-◌, length-append, length-take, ◌≡◌, ℕ, zero, suc, ◌+◌, ◌*◌, ◌<◌, ◌≤◌, List, [], ◌∷◌, ◌++◌, length, get_or, take, slice_set, set, refl, ap, sym, ◌∙◌, append_assoc, arith, add-one, Bor}
+use Rattle.std.proofs.Common.{subst, ◌-◌, length-append, length-take, ◌≡◌, ℕ, ◌+◌, ◌*◌, ◌<◌, ◌≤◌, List, [], ◌∷◌, ◌++◌, length, get_or, take, slice_set, refl, ap, sym, ◌∙◌, append_assoc, arith, add-one, Bor}
 use Rattle.std.proofs.lemmas.List.{length-set}
 use Rattle.std.proofs.lemmas.Grind.{take-set_at}
 use Rattle.std.proofs.Math.Seq.{take-suc}
-use Rattle.rl_value.specs.Plain.{Plain, bool, int, text, location, tuple, list, set as set_of, mapping, node, tree, leaf, Plains, nil, cons, plains_of, items_of, plain_text, plains_text, plain_size, plains_size, plain_height, plains_height}
+use Rattle.rl_value.specs.Plain.{Plain, bool, tree, leaf, Plains, nil, cons, plains_of, items_of, plain_text, plains_text, plain_size, plains_size, plain_height, plains_height}
 use Rattle.rl_value.specs.Readers.{parts_of, leaf_bytes}
 use Rattle.rl_value.specs.Levels.{levels_text, LeavesRoom, levels_weight}
 
@@ -11,7 +11,7 @@ pub plains_of-items_of : (ts : Plains) → plains_of (items_of ts) ≡ ts
 plains_of-items_of nil = refl
 plains_of-items_of (cons t ts) = ap (cons t) (plains_of-items_of ts)
 
-append-nil : {A : Type 0} (xs : List A) → xs ++ [] ≡ xs
+pub append-nil : {A : Type 0} (xs : List A) → xs ++ [] ≡ xs
 append-nil [] = refl
 append-nil (x ∷ xs) = ap (λ ys. x ∷ ys) (append-nil xs)
 

@@ -1,5 +1,5 @@
 -- Each value is larger than those inside it.
-use Rattle.std.specs.Prelude.{ℕ, ◌+◌, ◌≤◌, List, [], ◌∷◌, max, map}
+use Rattle.std.specs.Prelude.{◌+◌, ◌≤◌, List, [], ◌∷◌, max, map}
 use Rattle.std.proofs.Common.{arith}
 use denote.Param.Weighed.{most}
 use Rattle.rl_value.specs.Plain.{Plain, plains_of, pairs_of, plain_size, plains_size, pairs_size}

@@ -1,8 +1,8 @@
 -- The values directly inside a value, and the value with others in their place.
 use Rattle.std.specs.Prelude.{ℕ, zero, suc, get_or, ◌+◌, Bool, true, false, List, [], ◌∷◌, ◌++◌, length, drop}
 use Rattle.rl_value.specs.declared.shape.Role.{Role}
-use Rattle.rl_value.specs.declared.shape.Role.TheVariants.{Syntax, Lexical, Layout, Keyword, Rep, Opt}
-use Rattle.rl_value.specs.Plain.{Plain, bool, int, text, location, tuple, list, set, mapping, node, tree, leaf, Plains, nil, cons, Pairs, no_pairs, pair, plains_of, items_of, pairs_of}
+use Rattle.rl_value.specs.declared.shape.Role.TheVariants.{Layout, Rep, Opt}
+use Rattle.rl_value.specs.Plain.{Plain, tuple, list, set, mapping, node, tree, leaf, Plains, nil, cons, Pairs, no_pairs, pair, plains_of, items_of, pairs_of}
 use Rattle.rl_value.specs.Order.{plain_cmp}
 use Rattle.rl_value.specs.Rising.{rising}
 use Rattle.rl_value.specs.Entries.{put_all}

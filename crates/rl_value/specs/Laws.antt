@@ -14,8 +14,8 @@ use Rattle.rl_value.specs.declared.shape.Scheme.TheVariants.{Cwd, Unknown}
 use Rattle.rl_value.specs.declared.shape.Role.{Role}
 use Rattle.rl_value.specs.declared.shape.Role.TheVariants.{Syntax, Lexical, Layout, Keyword, Rep, Opt}
 use Rattle.rl_value.specs.Plain.{Shape, Plain, bool, int, text, location, tuple, list, set, mapping, node, tree, leaf, Plains, nil, cons, Pairs, no_pairs, pair, plains_text}
-use Rattle.rl_value.specs.Order.{rank, scheme_rank, role_rank, bytes_cmp, span_cmp, shape_cmp, plain_cmp, plains_cmp, pairs_cmp}
-use Rattle.rl_value.specs.Rose.{Rose, rose, Roses, no_roses, more, coded_rose, rose_cmp, roses_cmp, texts_cmp, rose_exact, rose_tied, rose_cmp_total}
+use Rattle.rl_value.specs.Order.{scheme_rank, role_rank, bytes_cmp, span_cmp, shape_cmp, plain_cmp, plains_cmp, pairs_cmp}
+use Rattle.rl_value.specs.Rose.{Rose, rose, Roses, no_roses, more, coded_rose, rose_cmp, roses_cmp, rose_exact, rose_tied, rose_cmp_total}
 
 abbrev pub bit : Bool → ℤ
 bit false = pos 0

@@ -1,5 +1,5 @@
 -- What is read from a value.
-use Rattle.std.specs.Prelude.{ℕ, ℤ, Bool, List, [], ◌∷◌, Option, Some, None}
+use Rattle.std.specs.Prelude.{ℕ, ℤ, Bool, List, [], Option, Some, None}
 use Rattle.rl_value.specs.declared.kind.Kind.{Kind}
 use Rattle.rl_value.specs.declared.kind.Kind.TheVariants as k
 use Rattle.rl_value.specs.declared.shape.Scheme.{Scheme}

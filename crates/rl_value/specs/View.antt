@@ -1,5 +1,5 @@
 -- The plain tree that a value is seen as, and what holds of each value.
-use Rattle.std.specs.Prelude.{◌≡◌, ℕ, List, map, All}
+use Rattle.std.specs.Prelude.{◌≡◌, ℕ, map, All}
 use Rattle.std.specs.Rc.{rc_str_bytes}
 use Rattle.rl_value.specs.Order.{plain_cmp}
 use Rattle.rl_value.specs.Kids.{kid_ends}

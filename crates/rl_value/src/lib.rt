@@ -9,6 +9,7 @@ pub mod kind;
 mod leaves;
 mod order;
 pub mod readers;
+mod renew;
 pub mod shape;
 pub mod value;
 

@@ -1,4 +1,4 @@
-use Rattle.std.proofs.Common.{◌≡◌, ◌<◌, ◌≤◌, ◌-◌, length, slice_index}
+use Rattle.std.proofs.Common.{◌<◌, ◌≤◌, ◌-◌, length, slice_index}
 use Rattle.rl_value.proofs.kids.first_after.Given as goal
 
 abbrev pub invariant-loop-low : goal.invariant-loop-low

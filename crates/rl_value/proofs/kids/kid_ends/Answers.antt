@@ -1,5 +1,4 @@
-use Rattle.std.proofs.Common.{◌≡◌, ◌+◌, ◌∷◌, [], ◌++◌, drop, ap, sym, ◌∙◌, arith, append_assoc}
-use Rattle.rl_value.specs.Kids.{kid_ends, part_kids}
+use Rattle.std.proofs.Common.{arith, append_assoc}
 use Rattle.rl_value.proofs.KidsLemmas.{part_kids_le, size_at, ends_at}
 use Rattle.rl_value.proofs.kids.kid_ends.Goals as goal
 

@@ -1,4 +1,4 @@
-use Rattle.std.proofs.Common.{◌≡◌, Some, None}
+use Rattle.std.proofs.Common.{Some, None}
 use Rattle.rl_value.proofs.KidsLemmas.{kid_count}
 use Rattle.rl_value.proofs.kids.last_end.Goals as goal
 

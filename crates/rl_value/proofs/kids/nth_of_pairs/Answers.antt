@@ -1,4 +1,4 @@
-use Rattle.std.proofs.Common.{◌≡◌, ◌<◌, ◌+◌, ◌*◌, ◌/◌, ◌%◌, length, arith}
+use Rattle.std.proofs.Common.{◌≡◌, ◌<◌, ◌+◌, ◌*◌, ◌/◌, length, arith}
 use Rattle.rl_value.proofs.KidsLemmas.{count_pairs_kids, pair_at}
 use Rattle.rl_value.proofs.kids.nth_of_pairs.Goals as goal
 

@@ -1,6 +1,6 @@
-use Rattle.std.proofs.Common.{◌≡◌, ◌<◌, length, arith, [], ap}
+use Rattle.std.proofs.Common.{length, arith, [], ap}
 use Rattle.rl_value.specs.Plain.{leaf}
-use Rattle.rl_value.proofs.KidsLemmas.{EndsAfter, Stands, ends_after, length-kid_ends, place}
+use Rattle.rl_value.proofs.KidsLemmas.{ends_after, length-kid_ends, place}
 use Rattle.rl_value.proofs.kids.place_in.Goals as goal
 
 pub first_after-part-requires-clause-some : goal.first_after-part-requires-clause-some

@@ -1,6 +1,6 @@
-use Rattle.std.proofs.Common.{◌≡◌, ◌≤◌, ◌<◌, ◌+◌, ◌-◌, ◌++◌, ◌∷◌, [], length, take, slice_set, subst, sym, arith, length-take, refl}
+use Rattle.std.proofs.Common.{◌+◌, ◌-◌, take, subst, arith}
 use Rattle.std.proofs.lemmas.List.{length-set}
-use Rattle.rl_value.specs.Levels.{levels_text, LeavesRoom, levels_weight}
+use Rattle.rl_value.specs.Levels.{LeavesRoom}
 use Rattle.rl_value.proofs.LevelsLemmas.{no_items, LeavesRoom-front, levels_down, text_up, weight_up, text_down, weight_down, one_more, room_down}
 use Rattle.rl_value.proofs.leaves.advance.Goals as goal
 
