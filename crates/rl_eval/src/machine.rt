@@ -167,3 +167,38 @@ fn evaluate<O: Sink>(
         }
     }
 }
+
+#[cfg(test)]
+mod tests {
+    use super::*;
+    use rl_base::{MemFiles, MemSink};
+    use std::test::Fail;
+
+    #[test]
+    fn a_budget_cuts_where_its_units_end(rt: HostRuntime) -> Result<(), Fail> {
+        let text =
+            "module M import IO; void main() { println(\"a\"); println(\"b\"); println(\"c\"); }";
+        for units in 0..14u64 {
+            let Some(program) = Program::read(rt.alloc(), "M", text.as_bytes())? else {
+                return Err("not read".into());
+            };
+            let mut machine = Machine::new(rt.alloc(), program, &[])?;
+            let mut files = MemFiles::new(rt.alloc());
+            let mut out = MemSink::new(rt.alloc(), 6, &[])?;
+            let mut meter = Meter::new(units);
+            let end = machine.run(&mut files, &mut out, &mut meter);
+            // The alternative and its member take two units, and each statement three, the last of them before it prints.
+            assert_eq!(rt; matches!(end, End::Value(_)), units >= 11, "{units}");
+            assert_eq!(rt; matches!(end, End::Budget), units < 11, "{units}");
+            let lines: &[u8] = match units {
+                0..5 => b"",
+                5..8 => b"a\n",
+                8..11 => b"a\nb\n",
+                _ => b"a\nb\nc\n",
+            };
+            assert_eq!(rt; out.bytes(), lines, "{units}");
+            assert_eq!(rt; meter.left(), units.saturating_sub(11), "{units}");
+        }
+        Ok(())
+    }
+}

@@ -269,3 +269,97 @@ fn literals(alloc: Global, tokens: &[Token]) -> Result<Option<Vec<Literal>>, All
     }
     Ok(Some(literals))
 }
+
+#[cfg(test)]
+mod tests {
+    use super::*;
+    use std::test::Fail;
+
+    #[test]
+    fn reads_the_literals_of_a_module(rt: HostRuntime) -> Result<(), Fail> {
+        let rows: [(&str, &str, Option<&[&str]>); 17] = [
+            ("Main", "module Main import IO; void main() { }", Some(&[])),
+            (
+                "Main",
+                "module Main import IO; void main(list[str] args) { println(\"hi\"); }\n",
+                Some(&["hi"]),
+            ),
+            (
+                "A_1",
+                "module A_1\nimport IO;void\nmain(){println(\"\");println ( \"}>'\" ) ;}",
+                Some(&["", "}>'"]),
+            ),
+            ("_", "module _ import IO; void main() { }", None),
+            ("import", "module import import IO; void main() { }", None),
+            ("Main", "", None),
+            ("Main", "moduleMain import IO; void main() { }", None),
+            ("Main", "module Mein import IO; void main() { }", None),
+            ("Main", "module Main import IO; void main() { } ;", None),
+            ("Main", "module Main import IO; void main() {", None),
+            (
+                "Main",
+                "module Main import IO; void main(list[str] words) { }",
+                None,
+            ),
+            ("Main", "module Main import IO; int main() { }", None),
+            ("Main", "module Main\timport IO; void main() { }", None),
+            (
+                "Main",
+                "module Main import IO; void main() { println(hi); }",
+                None,
+            ),
+            (
+                "Main",
+                "module Main import IO; void main() { println(\"<\"); }",
+                None,
+            ),
+            (
+                "Main",
+                "module Main import IO; void main() { println(\"\\\"\"); }",
+                None,
+            ),
+            (
+                "Main",
+                "module Main import IO; void main() { println(\"hi\") }",
+                None,
+            ),
+        ];
+        for (name, text, want) in rows {
+            let program = Program::read(rt.alloc(), name, text.as_bytes())?;
+            assert!(rt; is_program(&program, want), "{text}");
+        }
+        Ok(())
+    }
+
+    fn is_program(program: &Option<Program>, want: Option<&[&str]>) -> bool {
+        match (program, want) {
+            (None, None) => true,
+            (Some(program), Some(want)) => {
+                let literals = program.literals.as_slice();
+                literals.len() == want.len()
+                    && literals
+                        .iter()
+                        .zip(want)
+                        .all(|(literal, text)| literal.as_str() == *text)
+            }
+            _ => false,
+        }
+    }
+
+    #[test]
+    fn a_literal_has_at_most_1000_characters(rt: HostRuntime) -> Result<(), Fail> {
+        for (length, is_read) in [(1000, true), (1001, false)] {
+            let mut text = String::from_str(
+                rt.alloc(),
+                "module M import IO; void main() { println(\"",
+            )?;
+            for _ in 0..length {
+                text.push('x')?;
+            }
+            text.push_str("\"); }")?;
+            let program = Program::read(rt.alloc(), "M", text.as_str().as_bytes())?;
+            assert_eq!(rt; program.is_some(), is_read, "{length}");
+        }
+        Ok(())
+    }
+}

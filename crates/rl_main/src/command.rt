@@ -123,3 +123,6 @@ fn run_program<F: Files, O: Sink, E: Sink>(
         End::Failed(_) | End::Uncaught(_) => unreachable!(),
     }
 }
+
+#[cfg(test)]
+mod tests;

@@ -1,0 +1,2 @@
+module Main import IO;
+void main(list[str] args) { println("hi"); }
