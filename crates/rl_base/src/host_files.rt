@@ -27,6 +27,7 @@ impl<R> Model for HostFiles<R> {
 }
 
 impl<R: rt::Files> HostFiles<R> {
+    /// The files that this runtime opens.
     pub fn new(runtime: R) -> HostFiles<R>
         ensures { result ≡ 0 }
     {

@@ -9,7 +9,8 @@ use std::io::{ErrorKind, Write};
 use std::marker::Model;
 
 /// A writer of the machine as a sink, which contracts see as the writer and the count of faults.
-/// As a sink it does not say what it was told. What the writer says of its bytes holds.
+/// As a sink it does not say what it was told. Where the writer itself says what bytes it holds,
+/// the contract of `put` says how they grow.
 ///
 /// A write that fails, that takes nothing of a piece that is not empty, or a flush that fails is a
 /// fault. Each PutFailed raises the faults, a `u64` that stays at its last value.
@@ -30,6 +31,7 @@ impl<W> Model for HostSink<W> {
 }
 
 impl<W: Write> HostSink<W> {
+    /// A sink that puts to this writer.
     pub fn new(writer: W) -> HostSink<W>
         ensures { result ≡ record { writer = writer; faults = 0 } }
     {

@@ -1,8 +1,7 @@
-ghost use Rattle.std.specs.Prelude.{◌≡◌, ◌≤◌, ◌↔◌, ◌++◌, [], Some, IsTrue, IsErr, IfOk, OnOk, OnErr, length, take};
-ghost use Rattle.std.specs.Bool.{OnTrue};
+ghost use Rattle.std.specs.Prelude.{◌≡◌, ◌≤◌, ◌↔◌, [], Some, IsTrue, IsErr, IfOk, OnOk, OnErr};
 ghost use Rattle.rl_base.specs.Told.{told_after, TakesPart};
 ghost use Rattle.rl_base.specs.Faults.{Rose};
-ghost use Rattle.rl_base.specs.MemSink.{next_fail, taken_of, next_put_fails, after_put};
+ghost use Rattle.rl_base.specs.MemSink.{next_fail, next_put_fails, after_put};
 
 use crate::sink::{PutFailed, Sink};
 use std::alloc::{AllocError, Global};

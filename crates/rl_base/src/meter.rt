@@ -18,13 +18,14 @@ impl Model for Meter {
 }
 
 impl Meter {
+    /// A budget of so many units.
     pub fn new(units: u64) -> Meter
         ensures { result ≡ units }
     {
         Meter { units }
     }
 
-    /// Takes one unit, if there is one. It takes no memory.
+    /// Takes one unit, if there is one; false comes only where none is left.
     pub fn take(&mut self) -> bool
         ensures given { IsTrue result ↔ (0 < self.old) }
         ensures taken { OnTrue result (self.old ≡ self.new + 1) }
