@@ -1,10 +1,13 @@
+pub mod Decode
 pub mod Faults
 pub mod FileTable
 pub mod Holds
 pub mod HostFiles
 pub mod HostSink
+pub mod Lines
 pub mod MemFiles
 pub mod MemSink
 pub mod ReadAnswer
+pub mod Text
 pub mod Told
 pub mod formers
