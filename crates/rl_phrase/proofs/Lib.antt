@@ -1,0 +1,16 @@
+pub mod Cells
+pub mod Grows
+pub mod Ways
+pub mod Turned
+pub mod Runs
+pub mod Unfolds
+pub mod Follows
+pub mod Walks
+pub mod Enough
+pub mod Rebuild
+pub mod Scan
+pub mod Adds
+pub mod Named
+pub mod Determined
+pub mod Certified
+pub mod Examples

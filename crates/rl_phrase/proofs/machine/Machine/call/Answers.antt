@@ -1,0 +1,48 @@
+use Rattle.std.proofs.Common.{◌≡◌, ◌<◌, length, Some, ap, ◌∙◌, sym, subst, refl, arith}
+use Rattle.std.specs.Prelude.{slice_get}
+use Rattle.std.proofs.lemmas.Bool.{ltb-true}
+use Rattle.std.proofs.lemmas.Option.{slice_get_read}
+use Rattle.rl_tokens.specs.Token.{kinds_of}
+use Rattle.rl_phrase.specs.Phr.{Phr}
+use Rattle.rl_phrase.specs.Machine.{Calling, called}
+use Rattle.rl_phrase.specs.Arena.{parts_in}
+use Rattle.rl_phrase.specs.State.{after_turn, outcome_in, Leads}
+use Rattle.rl_phrase.proofs.Turned.{one_turn, remembered}
+use Rattle.rl_phrase.proofs.Ways.{jumps}
+use Rattle.rl_phrase.proofs.machine.Machine.call.Goals as goal
+
+pub returns-clause-means : goal.returns-clause-means
+returns-clause-means c frames =
+    let tokens = kinds_of c.args.tokens.now in
+    let rules = c.args.rules.now in
+    let cells = c.args.self.now.arena in
+    let entry = c.in-Some-recall.entry in
+    let outcome = outcome_in cells entry.given in
+    let parts = parts_in cells c.args.self.now.parts in
+    let far = c.args.self.now.far in
+    let is = c.in-Some-recall.ensures in
+    let right = remembered tokens rules cells c.args.self.now.memory entry c.requires.memory is.2 in
+    let here : Phr tokens rules c.args.row c.args.at outcome = subst (λ a. Phr tokens rules c.args.row a outcome) is.1 (subst (λ r. Phr tokens rules r entry.at outcome) (is.0 ∙ c.in-Ok.ensures.1) right.1) in
+    subst (λ s. Leads tokens rules (Calling c.args.row c.args.at frames parts far) s) (sym (c.recalled.ensures.means cells frames))
+    (jumps tokens rules c.args.row c.args.at outcome here frames parts far)
+
+pub returns-clause-within : goal.returns-clause-within
+returns-clause-within c =
+    let cells = c.args.self.now.arena in
+    let right = remembered (kinds_of c.args.tokens.now) c.args.rules.now cells c.args.self.now.memory c.in-Some-recall.entry c.requires.memory c.in-Some-recall.ensures.2 in
+    c.recalled.ensures.within (length cells) c.requires.list right.0
+
+pub returns-2-clause-means : goal.returns-2-clause-means
+returns-2-clause-means c frames =
+    let tokens = kinds_of c.args.tokens.now in
+    let rules = c.args.rules.now in
+    let cells = c.args.self.now.arena in
+    let parts = parts_in cells c.args.self.now.parts in
+    let far = c.args.self.now.far in
+    let lookup = c.in-Some.ensures.lookup in
+    let lt : c.args.row < length rules = ltb-true c.args.row (length rules) (sym lookup.0) in
+    let rule : slice_get rules c.args.row ≡ Some c.in-Some.rule.now = slice_get_read rules (length rules) c.args.row c.in-Some.rule.now refl lt lookup.1 in
+    one_turn tokens rules (Calling c.args.row c.args.at frames parts far) (after_turn cells c.start.result frames) (omega arith)
+    (ap (λ o. Some (called tokens c.args.row c.args.at o frames parts far)) rule
+    ∙ ap (λ r. Some (called tokens r c.args.at (Some c.in-Some.rule.now) frames parts far)) (sym c.in-Ok.ensures.1)
+    ∙ ap Some (sym (c.start.ensures.means frames)))

@@ -1,0 +1,17 @@
+pub mod Tree
+pub mod Phr
+pub mod Steps
+pub mod Machine
+pub mod Arena
+pub mod Memory
+pub mod Unfold
+pub mod State
+pub mod Awaits
+pub mod Stands
+pub mod LeftRecursion
+pub mod Certificate
+pub mod Search
+pub mod View
+pub mod Depth
+pub mod Build
+pub mod Answer

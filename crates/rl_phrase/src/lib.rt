@@ -1,0 +1,20 @@
+//! Phrases of a table of rules, found by one loop.
+#![tactic(auto)]
+
+mod arena;
+mod build;
+pub mod laws;
+mod machine;
+mod memory;
+pub mod phrase;
+#[cfg(test)]
+mod phrase_tests;
+mod search;
+mod stack;
+mod steps;
+pub mod table;
+pub mod tree;
+mod turn;
+mod unfold;
+
+pub use rl_tokens::{TokenFault, Tokens, terminal, tokens};

@@ -1,0 +1,47 @@
+// A stack on the heap.
+
+ghost use Rattle.std.specs.Prelude.{◌≡◌, List, [], ◌∷◌, reverse, length, OnOk, MatchOption};
+
+use std::alloc::{AllocError, Global};
+use std::marker::Model;
+
+/// Items, of which contracts see the list from the top on.
+#[derive(Drop)]
+pub struct Stack<T> {
+    items: Vec<T>,
+}
+
+impl<T> Model for Stack<T> {
+    ghost Value = { List T };
+
+    ghost view = { λ s. reverse s.items.items };
+}
+
+impl<T: Drop> Stack<T> {
+    pub fn new(alloc: Global) -> Self
+        ensures { result ≡ [] }
+    {
+        Stack {
+            items: Vec::new(alloc),
+        }
+    }
+
+    pub fn len(&self) -> usize
+        ensures { result ≡ length self.now }
+    {
+        self.items.len()
+    }
+
+    pub fn push(&mut self, item: T) -> Result<(), AllocError>
+        ensures { OnOk result (self.new ≡ item ∷ self.old) }
+    {
+        self.items.push(item)?;
+        Ok(())
+    }
+
+    pub fn pop(&mut self) -> Option<T>
+        ensures { MatchOption result ((self.old ≡ []) × (self.new ≡ [])) (λ item. self.old ≡ item ∷ self.new) }
+    {
+        self.items.pop()
+    }
+}

@@ -1,0 +1,6 @@
+pub mod NumberLemmas
+pub mod PlacedLemmas
+pub mod QuotedLemmas
+pub mod ScanLemmas
+pub mod TableLemmas
+pub mod WordLemmas

@@ -1,0 +1,11 @@
+pub mod Fault
+pub mod Hole
+pub mod Lexeme
+pub mod Number
+pub mod Placed
+pub mod Quoted
+pub mod Scan
+pub mod Set
+pub mod Terminal
+pub mod Token
+pub mod Word
