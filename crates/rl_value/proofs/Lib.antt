@@ -4,3 +4,4 @@ pub mod LevelsLemmas
 pub mod OrderLemmas
 pub mod RenewLemmas
 pub mod RisingLemmas
+pub mod SameLemmas

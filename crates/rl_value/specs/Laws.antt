@@ -253,7 +253,7 @@ plain_eq = eq_by_cmp plain_cmp
 pub plain_eq_equiv : IsEquivalence plain_eq
 plain_eq_equiv = eq_by_cmp_equiv plain_cmp_total
 
-equal_from : (o : Ordering) → is_eq o ≡ true → o ≡ Equal
+pub equal_from : (o : Ordering) → is_eq o ≡ true → o ≡ Equal
 equal_from Less e = cc
 equal_from Equal e = refl
 equal_from Greater e = cc

@@ -8,8 +8,10 @@ mod kids;
 pub mod kind;
 mod leaves;
 mod order;
+mod rank;
 pub mod readers;
 mod renew;
+mod same;
 pub mod shape;
 pub mod value;
 

@@ -2,75 +2,16 @@ ghost use Rattle.std.specs.Prelude.{◌≡◌, refl, map};
 ghost use Rattle.std.specs.Ordering.{as_partial_cmp};
 ghost use Rattle.std.specs.Cmp.{partial_equiv_from_equiv, partial_order_from_agreeing_total};
 ghost use Rattle.rl_value.specs.Plain.{plains_of, pairs_of};
-ghost use Rattle.rl_value.specs.View.{shape_of, location_of, pair_of};
-ghost use Rattle.rl_value.specs.Order.{rank, scheme_rank, role_rank, shape_cmp, plain_cmp, plains_cmp, pairs_cmp};
+ghost use Rattle.rl_value.specs.View.{pair_of};
+ghost use Rattle.rl_value.specs.Order.{plain_cmp, plains_cmp, pairs_cmp};
 ghost use Rattle.rl_value.specs.Laws.{plain_eq, plain_eq_equiv, plain_cmp_total};
 ghost use Rattle.rl_value.specs.Rising.{rising, Rises};
 
 use crate::leaves::compare_texts;
-use crate::shape::{Role, Scheme, Shape};
-use crate::value::{Entry, Form, Place, Value};
+use crate::rank::{compare_places, compare_shapes, rank};
+use crate::same::same;
+use crate::value::{Entry, Form, Value};
 use std::cmp::Ordering;
-
-/// The place of a value's kind in the order of kinds.
-fn rank(value: &Value) -> u8
-    ensures { result ≡ rank value.now }
-{
-    match &value.form {
-        Form::Bool(_) => 0,
-        Form::Int(_) => 1,
-        Form::Text(_) => 2,
-        Form::Location(_) => 3,
-        Form::Tuple(_) => 4,
-        Form::List(_) => 5,
-        Form::Set(_) => 6,
-        Form::Map(_) => 7,
-        Form::Node(_) => 8,
-        Form::Tree(_) => 9,
-        Form::Leaf(_) => 10,
-    }
-}
-
-fn scheme_rank(scheme: Scheme) -> u8
-    ensures { result ≡ scheme_rank scheme }
-{
-    match scheme {
-        Scheme::Cwd => 0,
-        Scheme::Unknown => 1,
-    }
-}
-
-fn role_rank(role: Role) -> u8
-    ensures { result ≡ role_rank role }
-{
-    match role {
-        Role::Syntax => 0,
-        Role::Lexical => 1,
-        Role::Layout => 2,
-        Role::Keyword => 3,
-        Role::Rep => 4,
-        Role::Opt => 5,
-    }
-}
-
-fn compare_places(a: &Place, b: &Place) -> Ordering
-    ensures { result ≡ plain_cmp (location_of a.now) (location_of b.now) }
-{
-    scheme_rank(a.scheme)
-        .cmp(&scheme_rank(b.scheme))
-        .then(a.path.cmp(&b.path))
-        .then(a.span.cmp(&b.span))
-}
-
-fn compare_shapes(a: &Shape, b: &Shape) -> Ordering
-    ensures { result ≡ shape_cmp (shape_of a.now) (shape_of b.now) }
-{
-    a.sort
-        .cmp(&b.sort)
-        .then(role_rank(a.role).cmp(&role_rank(b.role)))
-        .then(a.rule.cmp(&b.rule))
-        .then(a.label.cmp(&b.label))
-}
 
 /// Kinds in their order, and two of one kind by what they hold.
 #[cycle(compare)]
@@ -94,7 +35,7 @@ fn compare(a: &Value, b: &Value) -> Ordering
             match compare_texts(&m.parts.items, &n.parts.items).then_with(|| compare_shapes(
                 &m.shape, &n.shape,
             )) {
-                Ordering::Equal => compare_all(&m.parts.items, &n.parts.items),
+                Ordering::Equal => compare_parts(&m.parts.items, &n.parts.items),
                 found => found,
             }
         }
@@ -105,19 +46,37 @@ fn compare(a: &Value, b: &Value) -> Ordering
 
 /// The first that differ decide, and a list comes before what it begins.
 #[cycle(compare)]
-fn compare_all(a: &[Value], b: &[Value]) -> Ordering
+fn compare_all(left: &[Value], right: &[Value]) -> Ordering
+    ensures { result ≡ plains_cmp (plains_of left.now) (plains_of right.now) }
+{
+    let n = left.len().min(right.len());
+    for i in 0..n {
+        match compare(&left[i], &right[i]) {
+            Ordering::Equal => {}
+            found => return found,
+        }
+    }
+    left.len().cmp(&right.len())
+}
+
+/// The same for the parts of trees, where comparing what is equal would read each text once more at
+/// each level.
+#[cycle(compare)]
+fn compare_parts(a: &[Value], b: &[Value]) -> Ordering
     ensures { result ≡ plains_cmp (plains_of a.now) (plains_of b.now) }
 {
     let n = a.len().min(b.len());
     for i in 0..n {
-        match compare(&a[i], &b[i]) {
-            Ordering::Equal => {}
-            found => return found,
+        let x = &a[i];
+        let y = &b[i];
+        if !same(x, y) {
+            return compare(x, y);
         }
     }
     a.len().cmp(&b.len())
 }
 
+/// Key, value, key, value.
 #[cycle(compare)]
 fn compare_pairs(a: &[Entry], b: &[Entry]) -> Ordering
     ensures { result ≡ pairs_cmp (pairs_of (map pair_of a.now)) (pairs_of (map pair_of b.now)) }
@@ -144,7 +103,7 @@ impl PartialEq for Value {
     ghost laws = { partial_equiv_from_equiv plain_eq_equiv };
 
     fn eq(&self, other: &Value) -> bool {
-        compare(self, other).is_eq()
+        same(self, other)
     }
 }
 
