@@ -15,9 +15,12 @@ mod same;
 pub mod shape;
 pub mod value;
 
-pub use build::{int, leaf, list, location, node, text, tree, truth, tuple};
+pub use build::{MAX_HEIGHT, MAX_SIZE, int, leaf, list, location, node, text, tree, truth, tuple};
 pub use build_end::BuildEnd;
 pub use collect::{map, set};
 pub use kind::Kind;
 pub use shape::{Role, Scheme, Shape};
 pub use value::Value;
+
+#[cfg(test)]
+mod tests;

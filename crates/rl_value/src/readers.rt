@@ -1,6 +1,6 @@
-ghost use Rattle.std.specs.Prelude.{◌≡◌, ◌<◌, length, slice_get, All, Some};
+ghost use Rattle.std.specs.Prelude.{◌≡◌, ◌↔◌, IsTrue, ◌<◌, length, slice_get, All, Some};
 ghost use Rattle.std.specs.Option.{option_copied, option_map};
-ghost use Rattle.rl_value.specs.Plain.{IsPart};
+ghost use Rattle.rl_value.specs.Plain.{IsPart, IsTree};
 ghost use Rattle.rl_value.specs.Readers.{kind_of, as_bool, as_int, as_text, name_of, shape_in, scheme_of, path_of, span_of, parts_of, leaf_bytes};
 ghost use Rattle.rl_value.specs.View.{shape_of};
 
@@ -24,6 +24,30 @@ impl Value {
             Form::Node(_) => Kind::Node,
             Form::Tree(_) => Kind::Tree,
             Form::Leaf(_) => Kind::Leaf,
+        }
+    }
+
+    /// Whether this is a syntax tree.
+    pub fn is_tree(&self) -> bool
+        ensures { IsTrue result ↔ IsTree self.now }
+    {
+        match &self.form {
+            Form::Tree(_) => true,
+            Form::Bool(_) | Form::Int(_) | Form::Text(_) | Form::Location(_) | Form::Tuple(_) =>
+                false,
+            Form::List(_) | Form::Set(_) | Form::Map(_) | Form::Node(_) | Form::Leaf(_) => false,
+        }
+    }
+
+    /// Whether this is a syntax tree or a leaf, and so can be a part of a tree.
+    pub fn is_part(&self) -> bool
+        ensures { IsTrue result ↔ IsPart self.now }
+    {
+        match &self.form {
+            Form::Tree(_) | Form::Leaf(_) => true,
+            Form::Bool(_) | Form::Int(_) | Form::Text(_) | Form::Location(_) | Form::Tuple(_) =>
+                false,
+            Form::List(_) | Form::Set(_) | Form::Map(_) | Form::Node(_) => false,
         }
     }
 

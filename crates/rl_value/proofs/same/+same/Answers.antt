@@ -29,7 +29,7 @@ same_pairs-same-requires-in-loop-i t c =
 pub same_pairs-returns-then-not-same-2 : goal.same_pairs-returns-then-not-same-2
 same_pairs-returns-then-not-same-2 t c =
     value_differs c.args.a.now c.args.b.now c.loop-i.i c.index-a-i.result c.index-b-i.result (omega arith) (omega arith) c.index-a-i.is c.index-b-i.is
-        c.if-not-same.ensures c.if-not-same-2.ensures
+    c.if-not-same.ensures c.if-not-same-2.ensures
     ∙ c.loop-i.invariant
 
 pub same_pairs-returns : goal.same_pairs-returns
@@ -39,11 +39,11 @@ same_pairs-returns t c =
 pub same_trees-returns-in-Equal : goal.same_trees-returns-in-Equal
 same_trees-returns-in-Equal t c =
     let same = tree_same (shape_of c.args.a.now.shape) (shape_of c.args.b.now.shape)
-        (plains_of c.args.a.now.parts.items.items) (plains_of c.args.b.now.parts.items.items) (sym c.compare_shapes.ensures ∙ c.in-Equal.is) in
+    (plains_of c.args.a.now.parts.items.items) (plains_of c.args.b.now.parts.items.items) (sym c.compare_shapes.ensures ∙ c.in-Equal.is) in
     cc
 
 pub same_trees-returns-in_default : goal.same_trees-returns-in_default
 same_trees-returns-in_default t c =
     let differs = tree_differs (shape_of c.args.a.now.shape) (shape_of c.args.b.now.shape)
-        (plains_of c.args.a.now.parts.items.items) (plains_of c.args.b.now.parts.items.items) (λ e. c.in_default.not-Equal (c.compare_shapes.ensures ∙ e)) in
+    (plains_of c.args.a.now.parts.items.items) (plains_of c.args.b.now.parts.items.items) (λ e. c.in_default.not-Equal (c.compare_shapes.ensures ∙ e)) in
     cc
