@@ -1,8 +1,8 @@
 -- When two values tie.
-use Rattle.std.proofs.Common.{◌≡◌, ◌<◌, List, ℕ, length, get_or, drop, drop-cons, map, add-one, suc, ◌+◌, Bool, true, false, refl, ap, sym, ◌∙◌}
+use Rattle.std.proofs.Common.{◌≡◌, ◌<◌, List, ℕ, length, get_or, drop, drop-cons, map, add-one, suc, ◌+◌, true, false, refl, ap, sym, ◌∙◌}
 use Rattle.std.specs.declared.cmp.Ordering.{Ordering}
 use Rattle.std.specs.declared.cmp.Ordering.TheVariants.{Less, Equal, Greater}
-use Rattle.std.specs.Ordering.{nat_cmp, ordering_then, is_eq}
+use Rattle.std.specs.Ordering.{ordering_then, is_eq}
 use Rattle.std.proofs.lemmas.Cmp.{nat_list_cmp_total, tied_itself}
 use Rattle.rl_value.specs.Plain.{Plain, Shape, list, tree, Plains, plains_text, plains_of, pairs_of}
 use Rattle.rl_value.specs.Order.{bytes_cmp, shape_cmp, plain_cmp, plains_cmp, pairs_cmp}

@@ -17,6 +17,7 @@ pub const MAX_SIZE: u32 = 1 << 24;
 /// The height that no value passes.
 pub const MAX_HEIGHT: u32 = 2000;
 
+/// A truth value.
 pub fn truth(b: bool) -> Value
     ensures { result ≡ bool b }
 {
@@ -25,12 +26,14 @@ pub fn truth(b: bool) -> Value
     }
 }
 
+/// A whole number.
 pub fn int(n: i128) -> Value
     ensures { result ≡ int n }
 {
     Value { form: Form::Int(n) }
 }
 
+/// A text. Like every builder it answers `TooLarge` exactly where the value passes a limit.
 pub fn text(alloc: Global, s: &str) -> Result<Value, BuildEnd>
     ensures { Builds (text s.now) result }
 {
@@ -56,7 +59,7 @@ pub fn leaf(alloc: Global, s: &str) -> Result<Value, BuildEnd>
     })
 }
 
-/// The span is an offset and a length.
+/// A place in a file. The span is an offset and a length.
 pub fn location(
     alloc: Global,
     scheme: Scheme,
@@ -75,6 +78,7 @@ pub fn location(
     })
 }
 
+/// A tuple of these values.
 pub fn tuple(alloc: Global, vs: Vec<Value>) -> Result<Value, BuildEnd>
     ensures { Builds (tuple (plains_of vs.items)) result }
 {
@@ -97,6 +101,7 @@ pub fn tuple(alloc: Global, vs: Vec<Value>) -> Result<Value, BuildEnd>
     }
 }
 
+/// A list of these values.
 pub fn list(alloc: Global, vs: Vec<Value>) -> Result<Value, BuildEnd>
     ensures { Builds (list (plains_of vs.items)) result }
 {
@@ -147,7 +152,7 @@ pub(crate) fn node_of(alloc: Global, name: RcStr, kids: Vec<Value>) -> Result<Va
     }
 }
 
-/// A syntax tree.
+/// A syntax tree of these parts.
 pub fn tree(alloc: Global, shape: Shape, parts: Vec<Value>) -> Result<Value, BuildEnd>
     requires { All IsPart parts.items }
     ensures { Builds (tree (shape_of shape) (plains_of parts.items)) result }

@@ -5,6 +5,7 @@ use std::alloc::{AllocError, AllocFailed};
 pub enum BuildEnd {
     /// It would have a size above 2^24 or a height above 2,000.
     TooLarge,
+    /// There was no memory for it.
     OutOfMemory,
 }
 

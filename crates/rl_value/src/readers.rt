@@ -9,6 +9,7 @@ use crate::shape::{Scheme, Shape};
 use crate::value::{Form, Value};
 
 impl Value {
+    /// The kind, without the contents.
     pub fn kind(&self) -> Kind
         ensures { result ≡ kind_of self.now }
     {
@@ -51,6 +52,7 @@ impl Value {
         }
     }
 
+    /// The truth value that this is.
     pub fn as_bool(&self) -> Option<bool>
         ensures { result ≡ as_bool self.now }
     {
@@ -60,6 +62,7 @@ impl Value {
         }
     }
 
+    /// The number that this is.
     pub fn as_int(&self) -> Option<i128>
         ensures { result ≡ as_int self.now }
     {
@@ -69,7 +72,7 @@ impl Value {
         }
     }
 
-    /// The text of a text or a leaf.
+    /// The text that this is, of a text or a leaf.
     pub fn as_text(&self) -> Option<&str>
         ensures { option_copied result ≡ as_text self.now }
     {

@@ -1,4 +1,4 @@
-use Rattle.std.proofs.Common.{◌≡◌, ◌<◌, length, arith, sym, ap, ◌∙◌}
+use Rattle.std.proofs.Common.{◌<◌, length, arith, sym, ap, ◌∙◌}
 use Rattle.std.specs.Ordering.{is_eq}
 use Rattle.rl_value.proofs.OrderLemmas.{item_size, plains_cmp_end}
 use Rattle.rl_value.proofs.EntryLemmas.{entry_size, pairs_cmp_end}
