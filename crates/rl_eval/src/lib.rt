@@ -10,6 +10,5 @@ mod stack;
 mod steps;
 mod token;
 
-pub use literal::Literal;
 pub use machine::{End, Machine};
 pub use program::{Program, is_name};

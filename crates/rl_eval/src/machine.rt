@@ -53,7 +53,7 @@ impl Model for Machine {
 impl Machine {
     /// A machine for a program, called with these words. No form reads a variable yet, so that the words have no
     /// effect.
-    pub fn new(alloc: Global, program: Program, _args: &[String]) -> Result<Machine, AllocError>
+    pub fn new(alloc: Global, program: Program, args: &[String]) -> Result<Machine, AllocError>
         ensures { IfOk result (λ machine. machine ≡ Some program) }
     {
         Ok(Machine {
@@ -64,13 +64,13 @@ impl Machine {
 
     /// Runs the program, by the rules of the language, until it ends, its units are used up, or the outside or memory
     /// fails. A printed line is one `put`. Each unit is taken from the meter.
-    pub fn run<F: Files, O: Sink>(&mut self, _files: &mut F, out: &mut O, meter: &mut Meter) -> End
+    pub fn run<F: Files, O: Sink>(&mut self, files: &mut F, out: &mut O, meter: &mut Meter) -> End
         requires fresh { IsSome self.old }
         ensures used { self.new ≡ None }
         ensures answer { IfSome self.old (λ literals. IsEndOf (derivation literals meter.old) result (O.told out.old) (O.told out.new) meter.new) }
-        ensures held { F.holds _files.new ≡ F.holds _files.old }
-        ensures files_counted { F.faults _files.old ≤ F.faults _files.new }
-        ensures file_fault { result ≡ End.FileFault → Rose (F.faults _files.old) (F.faults _files.new) }
+        ensures held { F.holds files.new ≡ F.holds files.old }
+        ensures files_counted { F.faults files.old ≤ F.faults files.new }
+        ensures file_fault { result ≡ End.FileFault → Rose (F.faults files.old) (F.faults files.new) }
         ensures out_counted { O.faults out.old ≤ O.faults out.new }
         ensures sink_fault { result ≡ End.SinkFault → Rose (O.faults out.old) (O.faults out.new) }
     {

@@ -56,7 +56,7 @@ impl Program {
     }
 
     /// Its literals.
-    pub fn into_literals(self) -> Row<Literal>
+    pub(crate) fn into_literals(self) -> Row<Literal>
         ensures { result ≡ self }
     {
         self.literals
