@@ -3,6 +3,8 @@ use Rattle.std.proofs.Common.{◌≡◌, ℕ, zero, suc, ◌+◌, ◌<◌, ◌�
 use Rattle.std.specs.Prelude.{slice_get}
 use Rattle.std.proofs.lemmas.Option.{slice_get_within}
 use Rattle.std.proofs.lemmas.Bool.Decides.{eqb_tells}
+use Rattle.rl_tokens.specs.Token as lexed
+use Rattle.rl_phrase.specs.Terminals.{Tokens, is_terminal}
 use Rattle.rl_phrase.specs.declared.table.Rule.{Rule}
 use Rattle.rl_phrase.specs.declared.table.Form.{Form}
 use Rattle.rl_phrase.specs.declared.table.Form.TheVariants.{Term, Link, Named, Seq, Choice, Star, Plus, Opt, Not}
@@ -16,7 +18,7 @@ abbrev pub enough : ℕ → ℕ → ℕ
 enough count zero = suc count
 enough count (suc left) = enough count left + suc count
 
-module _ (tokens : List ℕ) (rules : List Rule) (bound : ℕ) (all : length tokens ≤ bound) where
+module _ (tokens : Tokens) (rules : List Rule) (bound : ℕ) (all : length tokens ≤ bound) where
   -- it goes on to a token from k on, and to k itself only under E
   abbrev Goes_on : ℕ → Type 0 → Outcome → Type 0
   Goes_on k E (Fails far) = Unit {0}
@@ -80,9 +82,9 @@ module _ (tokens : List ℕ) (rules : List Rule) (bound : ℕ) (all : length tok
   named_settles b k row F E (Fails f) e p = settles b _ k E (Fails f) (λ n le. ap (named row k) (e n le)) tt
   named_settles b k row F E (Gives ts next f) e p = settles b _ k E (Gives (only (node_of row k next ts)) next f) (λ n le. ap (named row k) (e n le)) p
 
-  terminal_settles : (b k kind : ℕ) (E : Type 0) (o : Option ℕ) → slice_get tokens k ≡ o → Settles b (λ n. Some (terminal kind k o)) k E
+  terminal_settles : (b k kind : ℕ) (E : Type 0) (o : Option lexed.Token) → slice_get tokens k ≡ o → Settles b (λ n. Some (terminal kind k o)) k E
   terminal_settles b k kind E None e = settles b _ k E (Fails k) (λ n le. refl) tt
-  terminal_settles b k kind E (Some t) e = by_test (nat_eq t kind)
+  terminal_settles b k kind E (Some t) e = by_test (is_terminal t kind)
     where
       by_test : (y : Bool) → Settles b (λ n. Some (cond y (Gives (only (Token k)) (k + 1) 0) (Fails k))) k E
       by_test true = let w = slice_get_within tokens k t e in settles b _ k E (Gives (only (Token k)) (k + 1) 0) (λ n le. refl) (omega arith, omega arith, λ q. absurd (omega arith))
@@ -204,7 +206,7 @@ module _ (tokens : List ℕ) (rules : List Rule) (bound : ℕ) (all : length tok
     known (suc left) k w e row =
         at_token (enough (length rules) left) k w (λ row' k' lt w'. known left k' w' (omega arith) row') (suc (length rules)) row (all_short rules none row)
 
-module _ (tokens : List ℕ) (rules : List Rule) (none : HasNoLeftRecursion rules) where
+module _ (tokens : Tokens) (rules : List Rule) (none : HasNoLeftRecursion rules) where
   -- what a row gives at a token, which enough levels tell
   pub known_outcome : (row at : ℕ) → Outcome
   known_outcome row at = (known tokens rules (at + length tokens) (omega arith) none (length tokens) at (omega arith) (omega arith) row).outcome

@@ -2,6 +2,8 @@
 use Rattle.std.proofs.Common.{◌≡◌, ℕ, zero, suc, ◌+◌, ◌<◌, ◌≤◌, max, nat_eq, nat_lt, Bool, true, false, cond, List, [], ◌∷◌, length, Option, Some, None, refl, sym, ap, ◌∙◌, subst, arith}
 use Rattle.std.specs.Prelude.{slice_get}
 use Rattle.std.proofs.lemmas.Bool.{lt-ltb, le-ltb}
+use Rattle.rl_tokens.specs.Token as lexed
+use Rattle.rl_phrase.specs.Terminals.{Tokens, is_terminal}
 use Rattle.rl_phrase.specs.declared.table.Rule.{Rule}
 use Rattle.rl_phrase.specs.declared.table.Form.{Form}
 use Rattle.rl_phrase.specs.declared.table.Form.TheVariants.{Term, Link, Named, Seq, Choice, Star, Plus, Opt, Not}
@@ -27,7 +29,7 @@ turned-onto ts = turned-onto_more ts none [] ∙ then-none ts
 max_assoc : (a b c : ℕ) → max (max a b) c ≡ max a (max b c)
 max_assoc a b c = omega arith
 
-module _ (tokens : List ℕ) (rows : List Rule) where
+module _ (tokens : Tokens) (rows : List Rule) where
   pub path_on : (a b floor : ℕ) (c d e : State) → Path tokens rows a floor c d → Path tokens rows b floor d e → Path tokens rows (a + b) floor c e
   path_on zero b floor c d e p q =
       let z : 0 + b ≡ b = omega arith in
@@ -273,9 +275,9 @@ module _ (tokens : List ℕ) (rows : List Rule) where
   abbrev AllRepeat : Meaning → (ℕ → ℕ) → Type 0
   AllRepeat m c = (row first count : ℕ) (form : Form) → slice_get rows row ≡ Some (record { form = form; first = first; count = count }) → IsRepeated form → Repeats (c row) first (first + count) (m row)
 
-  terminal_does : (kind at n : ℕ) (c : State) (fs : List Pending) (ps : List Tree) (far : ℕ) (o : Option ℕ) → 1 ≤ n → Goes 1 (length fs) c (called_terminal kind at o fs ps far) → Does (length fs) n c fs ps far (Some (terminal kind at o))
+  terminal_does : (kind at n : ℕ) (c : State) (fs : List Pending) (ps : List Tree) (far : ℕ) (o : Option lexed.Token) → 1 ≤ n → Goes 1 (length fs) c (called_terminal kind at o fs ps far) → Does (length fs) n c fs ps far (Some (terminal kind at o))
   terminal_does kind at n c fs ps far None le g = goes_on 1 0 n (length fs) _ _ _ (omega arith) g (stays (length fs) _)
-  terminal_does kind at n c fs ps far (Some k) le g = by_test (nat_eq k kind) g
+  terminal_does kind at n c fs ps far (Some k) le g = by_test (is_terminal k kind) g
     where
       by_test : (t : Bool) → Goes 1 (length fs) c (cond t (Going (at + 1) fs (Token at ∷ ps) far) (Failing fs (max far at))) → Does (length fs) n c fs ps far (Some (cond t (Gives (only (Token at)) (at + 1) 0) (Fails at)))
       by_test true g = goes_to n (length fs) _ _ _ (ap (λ m. Going (at + 1) fs (Token at ∷ ps) m) (max_none far)) (goes_on 1 0 n (length fs) _ _ _ (omega arith) g (stays (length fs) _))

@@ -2,6 +2,7 @@
 use Rattle.std.proofs.Common.{◌≡◌, ℕ, List, [], ◌∷◌, length, Option, Some, None, refl, sym, ap, ◌∙◌, subst, arith}
 use Rattle.std.specs.List.{All}
 use Rattle.std.proofs.lemmas.List.Elements.{All-weaker}
+use Rattle.rl_phrase.specs.Terminals.{Tokens}
 use Rattle.rl_phrase.specs.declared.table.Rule.{Rule}
 use Rattle.rl_phrase.specs.declared.arena.Item.{Item}
 use Rattle.rl_phrase.specs.declared.arena.Item.TheVariants as item
@@ -52,7 +53,7 @@ module _ (old new : List Cell) (e : Extends old new) where
   item_within (item.Token t) w = tt
   item_within (item.Node r f t parts) w = let le = e.0 in omega arith
 
-  module _ (tokens : List ℕ) (rules : List Rule) where
+  module _ (tokens : Tokens) (rules : List Rule) where
     right_stays : (entry : Entry) → IsRight tokens rules old entry → IsRight tokens rules new entry
     right_stays entry r = by_given entry.given r
       where

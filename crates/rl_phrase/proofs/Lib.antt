@@ -1,3 +1,4 @@
+pub mod TerminalLemmas
 pub mod Cells
 pub mod Grows
 pub mod Ways

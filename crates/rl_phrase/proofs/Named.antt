@@ -1,6 +1,7 @@
 -- A named row gives a node.
 use Rattle.std.proofs.Common.{◌≡◌, ℕ, suc, List, Option, Some, None, Result, Ok, Err, refl, sym, ap, ◌∙◌, subst, arith, append-nil, Vec, Global}
 use Rattle.std.specs.Prelude.{slice_get}
+use Rattle.rl_phrase.specs.Terminals.{Tokens}
 use Rattle.rl_phrase.specs.declared.table.Rule.{Rule}
 use Rattle.rl_phrase.specs.declared.table.Form.{Form}
 use Rattle.rl_phrase.specs.declared.tree.Phrase.{Phrase}
@@ -35,13 +36,13 @@ named_one row k (Some (Fails f)) ts next far e = cc
 named_one row k (Some (Gives us to f)) ts next far e = (node_of row k to us, node_is row k to us, cc)
 
 -- what a machine that has found something shows of a named row
-pub record FoundNode (tokens : List ℕ) (rules : List Rule) (row : ℕ) (steps : List Step) : Type 0 where
+pub record FoundNode (tokens : Tokens) (rules : List Rule) (row : ℕ) (steps : List Step) : Type 0 where
   pub tree : Tree
   pub node : IsNode tree
   pub gives : GivesTree tokens rules row tree
   pub are : steps ≡ tree_steps tree
 
-pub found_node : (tokens : List ℕ) (rules : List Rule) (row : ℕ) (steps : List Step) (ts : Trees) (next far : ℕ) → IsNamed rules row → Phr tokens rules row 0 (Gives ts next far) → steps ≡ steps_of ts → FoundNode tokens rules row steps
+pub found_node : (tokens : Tokens) (rules : List Rule) (row : ℕ) (steps : List Step) (ts : Trees) (next far : ℕ) → IsNamed rules row → Phr tokens rules row 0 (Gives ts next far) → steps ≡ steps_of ts → FoundNode tokens rules row steps
 found_node tokens rules row steps ts next far is p e =
     let rule = is.0 in
     let n = p.enough in
@@ -56,12 +57,12 @@ found_node tokens rules row steps ts next far is p e =
       are = e ∙ ap steps_of one.2 ∙ append-nil (tree_steps one.0);
     }
 
-pub shown_node : (tokens : List ℕ) (rules : List Rule) (row : ℕ) (steps : Vec Step Global) (at : ℕ) (e : Ending) → IsNamed rules row → Shows tokens rules row e → e ≡ Found steps at → FoundNode tokens rules row steps.items
+pub shown_node : (tokens : Tokens) (rules : List Rule) (row : ℕ) (steps : Vec Step Global) (at : ℕ) (e : Ending) → IsNamed rules row → Shows tokens rules row e → e ≡ Found steps at → FoundNode tokens rules row steps.items
 shown_node tokens rules row steps at e is s q =
     let t = subst (λ x. Shows tokens rules row x) q s in
     found_node tokens rules row steps.items t.0 at t.1 is t.2 t.3
 
-pub answered : (tokens : List ℕ) (rules : List Rule) (row : ℕ) (tree : Tree) (result : Result Phrase PhraseFault) → GivesTree tokens rules row tree → AnswersTree tree result → Answers tokens rules row result
+pub answered : (tokens : Tokens) (rules : List Rule) (row : ℕ) (tree : Tree) (result : Result Phrase PhraseFault) → GivesTree tokens rules row tree → AnswersTree tree result → Answers tokens rules row result
 answered tokens rules row tree (Ok p) g a = (subst (λ t. GivesTree tokens rules row t) (sym a.0) g, subst (λ t. first_below t 1000 ≡ None) (sym a.0) a.1)
 answered tokens rules row tree (Err (TooDeep token)) g a = (tree, g, a)
 answered tokens rules row tree (Err OutOfMemory) g a = tt

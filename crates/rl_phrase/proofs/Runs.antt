@@ -1,11 +1,12 @@
 -- The machine comes to an end.
 use Rattle.std.proofs.Common.{◌≡◌, ℕ, zero, suc, ◌<◌, ◌≤◌, max, List, [], Option, Some, None, length, refl, sym, ap, ◌∙◌, subst, arith}
 use Rattle.std.proofs.lemmas.Option.{same_Some}
+use Rattle.rl_phrase.specs.Terminals.{Tokens}
 use Rattle.rl_phrase.specs.declared.table.Rule.{Rule}
 use Rattle.rl_phrase.specs.Tree.{Tree, Trees}
 use Rattle.rl_phrase.specs.Phr.{Outcome, Fails, Gives, Phr}
 use Rattle.rl_phrase.specs.LeftRecursion.{HasNoLeftRecursion}
-use Rattle.rl_phrase.specs.Machine.{onto, Pending, State, Calling, Going, Failing, turn, Path, done}
+use Rattle.rl_phrase.specs.Machine.{onto, Pending, State, Calling, Going, turn, Path, done}
 use Rattle.rl_phrase.specs.State.{Leads}
 use Rattle.rl_phrase.proofs.Follows.{Does, Goes, cost, follows}
 use Rattle.rl_phrase.proofs.Enough.{enough, known_outcome, known_tells}
@@ -17,7 +18,7 @@ end_or (Some next) state go = go next
 max_0 : (f : ℕ) → max 0 f ≡ f
 max_0 f = omega arith
 
-module _ (tokens : List ℕ) (rules : List Rule) where
+module _ (tokens : Tokens) (rules : List Rule) where
   -- the state at the end, if fewer than n turns lead there
   abbrev pub run : ℕ → State → Option State
   run zero state = None

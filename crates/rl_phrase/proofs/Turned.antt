@@ -2,6 +2,7 @@
 use Rattle.std.proofs.Common.{◌≡◌, ℕ, ◌<◌, ◌⊎◌, List, ◌∷◌, Some, refl, sym, subst, ⊎_elim}
 use Rattle.std.specs.List.{All, IsAmong}
 use Rattle.std.proofs.lemmas.List.Elements.{All-weaker, All-contains}
+use Rattle.rl_phrase.specs.Terminals.{Tokens}
 use Rattle.rl_phrase.specs.declared.table.Rule.{Rule}
 use Rattle.rl_phrase.specs.declared.arena.Cell.{Cell}
 use Rattle.rl_phrase.specs.declared.memory.Given.TheVariants.{Failure, Success}
@@ -18,7 +19,7 @@ use Rattle.rl_phrase.specs.Awaits.{IsOnTheWay}
 use Rattle.rl_phrase.specs.Stands.{RemembersSuccess, RemembersFailure}
 use Rattle.rl_phrase.proofs.Ways.{right_success, right_failure}
 
-module _ (tokens : List ℕ) (rules : List Rule) where
+module _ (tokens : Tokens) (rules : List Rule) where
   pub one_turn : (c d : State) → 0 < depth c → turn tokens rules c ≡ Some d → Leads tokens rules c d
   one_turn c d lt e = (0, (lt, (d, (e, refl))))
 

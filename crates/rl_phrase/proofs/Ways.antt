@@ -2,6 +2,8 @@
 use Rattle.std.proofs.Common.{◌≡◌, ℕ, zero, suc, ◌+◌, ◌<◌, max, nat_eq, nat_lt, Bool, true, false, cond, List, [], ◌∷◌, length, Option, Some, None, refl, sym, ap, ◌∙◌, subst, arith}
 use Rattle.std.specs.Prelude.{slice_get}
 use Rattle.std.proofs.lemmas.Option.{same_Some}
+use Rattle.rl_tokens.specs.Token as lexed
+use Rattle.rl_phrase.specs.Terminals.{Tokens, is_terminal}
 use Rattle.rl_phrase.specs.declared.table.Rule.{Rule}
 use Rattle.rl_phrase.specs.declared.table.Form.{Form}
 use Rattle.rl_phrase.specs.declared.table.Form.TheVariants.{Term, Link, Named, Seq, Choice, Star, Plus, Opt, Not}
@@ -21,7 +23,7 @@ depth-done (Gives ts next f) fs ps far = refl
 max_0 : (f : ℕ) → max 0 f ≡ f
 max_0 f = omega arith
 
-module _ (tokens : List ℕ) (rules : List Rule) where
+module _ (tokens : Tokens) (rules : List Rule) where
   awaited_turn : (row from : ℕ) (ps : List Tree) (far : ℕ) (fs : List Pending) (c d : State) → suc (length fs) < depth c → turn tokens rules c ≡ Some d → Awaited tokens rules c row from ps far fs → Awaited tokens rules d row from ps far fs
   awaited_turn row from ps far fs c d lt e a = go a.turns a.path
     where
@@ -71,9 +73,9 @@ module _ (tokens : List ℕ) (rules : List Rule) where
       record { parts_give = g.give; means = subst (λ x. Phr tokens rules row at x) (sym g.names) p; turns = goes.steps; path = goes.path }
 
   module _ (none : HasNoLeftRecursion rules) where
-    way_terminal : (kind at : ℕ) (o : Option ℕ) (fs : List Pending) (ps : List Tree) (far : ℕ) → Awaits tokens rules (called_terminal kind at o fs ps far) fs → IsOnTheWay tokens rules (called_terminal kind at o fs ps far)
+    way_terminal : (kind at : ℕ) (o : Option lexed.Token) (fs : List Pending) (ps : List Tree) (far : ℕ) → Awaits tokens rules (called_terminal kind at o fs ps far) fs → IsOnTheWay tokens rules (called_terminal kind at o fs ps far)
     way_terminal kind at None fs ps far a = a
-    way_terminal kind at (Some k) fs ps far a = by_test (nat_eq k kind) a
+    way_terminal kind at (Some k) fs ps far a = by_test (is_terminal k kind) a
       where
         by_test : (b : Bool) → Awaits tokens rules (cond b (Going (at + 1) fs (Token at ∷ ps) far) (Failing fs (max far at))) fs → IsOnTheWay tokens rules (cond b (Going (at + 1) fs (Token at ∷ ps) far) (Failing fs (max far at)))
         by_test true a = a

@@ -1,5 +1,6 @@
 -- What the phrase of a table is.
 use Rattle.std.specs.Prelude.{◌≡◌, ℕ, List, Some, None, Result, Ok, Err, slice_get}
+use Rattle.rl_phrase.specs.Terminals.{Tokens}
 use Rattle.rl_phrase.specs.declared.table.Rule.{Rule}
 use Rattle.rl_phrase.specs.declared.table.Form.TheVariants.{Named}
 use Rattle.rl_phrase.specs.declared.tree.Phrase.{Phrase}
@@ -21,11 +22,11 @@ AnswersTree tree (Err OutOfMemory) = Unit {0}
 AnswersTree tree (Err (Stopped token)) = ⊥
 
 -- the row gives this tree
-abbrev pub GivesTree : List ℕ → List Rule → ℕ → Tree → Type 0
+abbrev pub GivesTree : Tokens → List Rule → ℕ → Tree → Type 0
 GivesTree tokens rules row tree = (next far : ℕ) × Phr tokens rules row 0 (Gives (only tree) next far)
 
 -- The phrase is what the row gives. It stops where the row fails.
-abbrev pub Answers : List ℕ → List Rule → ℕ → Result Phrase PhraseFault → Type 0
+abbrev pub Answers : Tokens → List Rule → ℕ → Result Phrase PhraseFault → Type 0
 Answers tokens rules row (Ok phrase) = GivesTree tokens rules row (view phrase) × (first_below (view phrase) 1000 ≡ None)
 Answers tokens rules row (Err (Stopped token)) = Phr tokens rules row 0 (Fails token)
 Answers tokens rules row (Err (TooDeep token)) = (tree : Tree) × GivesTree tokens rules row tree × (first_below tree 1000 ≡ Some token)

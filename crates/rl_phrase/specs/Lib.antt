@@ -1,3 +1,4 @@
+pub mod Terminals
 pub mod Tree
 pub mod Phr
 pub mod Steps

@@ -1,5 +1,7 @@
 -- The machine's turns, without its memory.
 use Rattle.std.specs.Prelude.{◌≡◌, ◌<◌, ℕ, zero, suc, ◌+◌, max, nat_eq, nat_lt, Bool, true, false, List, [], ◌∷◌, Option, Some, None, if◌then◌else◌, slice_get, length}
+use Rattle.rl_tokens.specs.Token as lexed
+use Rattle.rl_phrase.specs.Terminals.{Tokens, is_terminal}
 use Rattle.rl_phrase.specs.declared.table.Rule.{Rule}
 use Rattle.rl_phrase.specs.declared.table.Form.{Form}
 use Rattle.rl_phrase.specs.declared.table.Form.TheVariants.{Term, Link, Named, Seq, Choice, Star, Plus, Opt, Not}
@@ -39,13 +41,13 @@ pub data State : Type 0 where
 abbrev pub Next : Type 0
 Next = List Pending → List Tree → ℕ → State
 
-abbrev pub called_terminal : ℕ → ℕ → Option ℕ → Next
+abbrev pub called_terminal : ℕ → ℕ → Option lexed.Token → Next
 called_terminal kind at None frames parts far = Failing frames (max far at)
-called_terminal kind at (Some k) frames parts far =
-    if nat_eq k kind then Going (at + 1) frames (Token at ∷ parts) far
+called_terminal kind at (Some t) frames parts far =
+    if is_terminal t kind then Going (at + 1) frames (Token at ∷ parts) far
     else Failing frames (max far at)
 
-abbrev pub called_form : List ℕ → (row at : ℕ) → Form → (first count : ℕ) → Next
+abbrev pub called_form : Tokens → (row at : ℕ) → Form → (first count : ℕ) → Next
 called_form tokens row at (Term kind) first count frames parts far = called_terminal kind at (slice_get tokens at) frames parts far
 called_form tokens row at Link first count frames parts far = Calling first at frames parts far
 called_form tokens row at Named first count frames parts far = Going at (Parts first (first + count) ∷ Naming row at parts far ∷ frames) [] 0
@@ -56,7 +58,7 @@ called_form tokens row at Plus first count frames parts far = Going at (Parts fi
 called_form tokens row at Opt first count frames parts far = Going at (Parts first (first + count) ∷ Optional at parts ∷ frames) parts far
 called_form tokens row at Not first count frames parts far = Going at (Parts first (first + count) ∷ Negated at parts ∷ frames) parts far
 
-abbrev pub called : List ℕ → (row at : ℕ) → Option Rule → Next
+abbrev pub called : Tokens → (row at : ℕ) → Option Rule → Next
 called tokens row at None frames parts far = Failing frames far
 called tokens row at (Some rule) frames parts far = called_form tokens row at rule.form rule.first rule.count frames parts far
 
@@ -89,7 +91,7 @@ failed (Optional at before) frames far = Going at frames before far
 failed (Negated at before) frames far = Going at frames before far
 
 -- one turn, if there is one
-abbrev pub turn : List ℕ → List Rule → State → Option State
+abbrev pub turn : Tokens → List Rule → State → Option State
 turn tokens rules (Calling row at frames parts far) = Some (called tokens row at (slice_get rules row) frames parts far)
 turn tokens rules (Going at [] parts far) = None
 turn tokens rules (Going at (frame ∷ frames) parts far) = Some (succeeded at frame frames parts far)
@@ -103,7 +105,7 @@ depth (Going at frames parts far) = length frames
 depth (Failing frames far) = length frames
 
 -- so many turns from one state to another, each from a state that is deeper than the floor
-abbrev pub Path : List ℕ → List Rule → (n floor : ℕ) → State → State → Type 0
+abbrev pub Path : Tokens → List Rule → (n floor : ℕ) → State → State → Type 0
 Path tokens rules zero floor c d = c ≡ d
 Path tokens rules (suc n) floor c d = (floor < depth c) × ((next : State) × ((turn tokens rules c ≡ Some next) × Path tokens rules n floor next d))
 

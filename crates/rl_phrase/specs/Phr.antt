@@ -1,5 +1,7 @@
 -- What a row of a table gives at a token.
 use Rattle.std.specs.Prelude.{◌≡◌, ℕ, zero, suc, ◌+◌, ◌≤◌, max, nat_eq, List, Option, Some, None, if◌then◌else◌, slice_get}
+use Rattle.rl_tokens.specs.Token as lexed
+use Rattle.rl_phrase.specs.Terminals.{Tokens, is_terminal}
 use Rattle.rl_phrase.specs.declared.table.Rule.{Rule}
 use Rattle.rl_phrase.specs.declared.table.Form.{Form}
 use Rattle.rl_phrase.specs.declared.table.Form.TheVariants.{Term, Link, Named, Seq, Choice, Star, Plus, Opt, Not}
@@ -71,12 +73,12 @@ named rule from (Some (Fails far)) = Some (Fails far)
 named rule from (Some (Gives trees to far)) = Some (Gives (only (node_of rule from to trees)) to far)
 
 -- a terminal where the token is it
-abbrev pub terminal : ℕ → ℕ → Option ℕ → Outcome
+abbrev pub terminal : ℕ → ℕ → Option lexed.Token → Outcome
 terminal kind token None = Fails token
-terminal kind token (Some k) = if nat_eq k kind then Gives (only (Token token)) (token + 1) 0 else Fails token
+terminal kind token (Some t) = if is_terminal t kind then Gives (only (Token token)) (token + 1) 0 else Fails token
 
 -- a row of this form, where the rows have this meaning
-abbrev pub of_form : List ℕ → Meaning → ℕ → Form → (first count token : ℕ) → Option Outcome
+abbrev pub of_form : Tokens → Meaning → ℕ → Form → (first count token : ℕ) → Option Outcome
 of_form tokens row_at row (Term kind) first count token = Some (terminal kind token (slice_get tokens token))
 of_form tokens row_at row Link first count token = row_at first token
 of_form tokens row_at row Named first count token = named row token (in_turn row_at first count token)
@@ -87,16 +89,16 @@ of_form tokens row_at row Plus first count token = and_then (in_turn row_at firs
 of_form tokens row_at row Opt first count token = optional token (in_turn row_at first count token)
 of_form tokens row_at row Not first count token = negated token (in_turn row_at first count token)
 
-abbrev pub of_rule : List ℕ → Meaning → ℕ → Option Rule → ℕ → Option Outcome
+abbrev pub of_rule : Tokens → Meaning → ℕ → Option Rule → ℕ → Option Outcome
 of_rule tokens row_at row None token = Some (Fails 0)
 of_rule tokens row_at row (Some rule) token = of_form tokens row_at row rule.form rule.first rule.count token
 
 -- what a row gives, as far as n levels of rows tell
-abbrev pub phr : List ℕ → List Rule → ℕ → Meaning
+abbrev pub phr : Tokens → List Rule → ℕ → Meaning
 phr tokens rules zero row token = None
 phr tokens rules (suc n) row token = of_rule tokens (phr tokens rules n) row (slice_get rules row) token
 
 -- what a row gives: what any number of levels tells that is large enough
-pub record Phr (tokens : List ℕ) (rules : List Rule) (row token : ℕ) (outcome : Outcome) : Type 0 where
+pub record Phr (tokens : Tokens) (rules : List Rule) (row token : ℕ) (outcome : Outcome) : Type 0 where
   pub enough : ℕ
   pub tells : (n : ℕ) → enough ≤ n → phr tokens rules n row token ≡ Some outcome

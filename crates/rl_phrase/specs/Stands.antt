@@ -1,6 +1,7 @@
 -- A machine whose lists are there and whose memory is right.
 use Rattle.std.specs.Prelude.{◌≡◌, ℕ, ◌≤◌, List, Bool, true, false, Option, Some, None, length}
 use Rattle.std.specs.List.{All}
+use Rattle.rl_phrase.specs.Terminals.{Tokens}
 use Rattle.rl_phrase.specs.declared.table.Rule.{Rule}
 use Rattle.rl_phrase.specs.declared.arena.Item.{Item}
 use Rattle.rl_phrase.specs.declared.arena.Cell.{Cell}
@@ -17,7 +18,7 @@ use Rattle.rl_phrase.specs.Memory.{IsOneMore}
 use Rattle.rl_phrase.specs.State.{state_of, frames_in, after_turn, FramesWithin, TurnWithin, IsRight, Leads}
 use Rattle.rl_phrase.specs.Awaits.{IsOnTheWay}
 
-pub record Stands (tokens : List ℕ) (rules : List Rule) (m : Machine) : Type 0 where
+pub record Stands (tokens : Tokens) (rules : List Rule) (m : Machine) : Type 0 where
   pub list : m.parts ≤ length m.arena
   pub frames : FramesWithin (length m.arena) m.frames
   pub memory : All (IsRight tokens rules m.arena) m.memory
@@ -44,17 +45,17 @@ RemembersFailure (Optional mark) far old new = new ≡ old
 RemembersFailure (Negated mark) far old new = new ≡ old
 
 -- the turn is there to be taken, or the machine is at its end
-pub record IsReady (tokens : List ℕ) (rules : List Rule) (old new : Machine) (t : Turn) : Type 0 where
+pub record IsReady (tokens : Tokens) (rules : List Rule) (old new : Machine) (t : Turn) : Type 0 where
   pub frames : FramesWithin (length new.arena) new.frames
   pub within : TurnWithin (length new.arena) t
   pub memory : All (IsRight tokens rules new.arena) new.memory
   pub leads : Leads tokens rules (state_of old) (after_turn new.arena t (frames_in new.arena new.frames))
 
-abbrev pub IsPrepared : List ℕ → List Rule → (old new : Machine) → Option Turn → Type 0
+abbrev pub IsPrepared : Tokens → List Rule → (old new : Machine) → Option Turn → Type 0
 IsPrepared tokens rules old new (Some t) = IsReady tokens rules old new t
 IsPrepared tokens rules old new None = (turn tokens rules (state_of old) ≡ None) × Stands tokens rules new × (state_of new ≡ state_of old)
 
 -- it has gone on, or it was at the end
-abbrev pub HasTurned : List ℕ → List Rule → (old new : Machine) → Bool → Type 0
+abbrev pub HasTurned : Tokens → List Rule → (old new : Machine) → Bool → Type 0
 HasTurned tokens rules old new true = Leads tokens rules (state_of old) (state_of new)
 HasTurned tokens rules old new false = (turn tokens rules (state_of old) ≡ None) × (state_of new ≡ state_of old)

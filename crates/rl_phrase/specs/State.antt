@@ -1,5 +1,6 @@
 -- A machine's state, and what a turn makes of it.
 use Rattle.std.specs.Prelude.{◌≡◌, ℕ, ◌≤◌, suc, List, [], ◌∷◌, Option, Some, None, length}
+use Rattle.rl_phrase.specs.Terminals.{Tokens}
 use Rattle.rl_phrase.specs.declared.table.Rule.{Rule}
 use Rattle.rl_phrase.specs.declared.arena.Cell.{Cell}
 use Rattle.rl_phrase.specs.declared.memory.Given.{Given}
@@ -84,7 +85,7 @@ abbrev pub outcome_in : List Cell → Given → Outcome
 outcome_in cells (Failure far) = Fails far
 outcome_in cells (Success item next far) = Gives (only (tree_in cells item)) next far
 
-abbrev pub IsRight : List ℕ → List Rule → List Cell → Entry → Type 0
+abbrev pub IsRight : Tokens → List Rule → List Cell → Entry → Type 0
 IsRight tokens rules cells entry = GivenWithin (length cells) entry.given × Phr tokens rules entry.row entry.at (outcome_in cells entry.given)
 
 -- old lists stay as they are
@@ -92,7 +93,7 @@ abbrev pub Extends : (old new : List Cell) → Type 0
 Extends old new = (length old ≤ length new) × ((list : ℕ) → list ≤ length old → parts_in new list ≡ parts_in old list)
 
 -- one turn or more
-abbrev pub Leads : List ℕ → List Rule → State → State → Type 0
+abbrev pub Leads : Tokens → List Rule → State → State → Type 0
 Leads tokens rules c d = (n : ℕ) × Path tokens rules (suc n) 0 c d
 
 abbrev pub with_some : Option Frame → List Frame → List Frame

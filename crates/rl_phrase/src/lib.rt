@@ -13,6 +13,7 @@ mod search;
 mod stack;
 mod steps;
 pub mod table;
+mod terminals;
 pub mod tree;
 mod turn;
 mod unfold;

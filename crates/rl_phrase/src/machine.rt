@@ -3,7 +3,6 @@
 ghost use Rattle.std.specs.Prelude.{◌≡◌, ℕ, ◌≤◌, List, length, slice_get, OnOk, IfOk};
 ghost use Rattle.std.specs.List.{All};
 ghost use Rattle.rl_phrase.specs.declared.arena.Cell.{Cell};
-ghost use Rattle.rl_tokens.specs.Token.{kinds_of};
 ghost use Rattle.rl_phrase.specs.LeftRecursion.{HasNoLeftRecursion};
 ghost use Rattle.rl_phrase.specs.Phr.{node_of};
 ghost use Rattle.rl_phrase.specs.Machine.{Pending, Calling, turned, called_terminal, called_form, succeeded};
@@ -15,6 +14,7 @@ use crate::arena::{Arena, Cell, Item};
 use crate::memory::{Entry, Given, Memory};
 use crate::stack::Stack;
 use crate::table::{Form, Rule};
+use crate::terminals::is_terminal;
 use crate::turn::{Built, Frame, Mark, Rest, Task, Turn, begin, fail, push, recalled, to};
 use rl_tokens::Tokens;
 use std::alloc::{AllocError, Global};
@@ -125,10 +125,10 @@ pub struct Machine {
 impl Machine {
     // A terminal is read where the token is it.
     fn read(&self, tokens: &Tokens, kind: u32, at: u32) -> Turn
-        ensures means { (frames : List Pending) → after_turn self.now.arena result frames ≡ called_terminal kind at (slice_get (kinds_of tokens.now) at) frames (parts_in self.now.arena self.now.parts) self.now.far }
+        ensures means { (frames : List Pending) → after_turn self.now.arena result frames ≡ called_terminal kind at (slice_get tokens.now at) frames (parts_in self.now.arena self.now.parts) self.now.far }
         ensures within { (n : ℕ) → self.now.parts ≤ n → TurnWithin n result }
     {
-        if at < tokens.len() && tokens.kind(at) == kind {
+        if at < tokens.len() && is_terminal(tokens, at, kind) {
             return to(
                 Task::Succeed(at + 1),
                 Built::More(self.parts, Item::Token(at)),
@@ -140,7 +140,7 @@ impl Machine {
 
     // What a row begins with.
     fn start(&self, tokens: &Tokens, rule: Rule, row: u32, at: u32) -> Turn
-        ensures means { (frames : List Pending) → after_turn self.now.arena result frames ≡ called_form (kinds_of tokens.now) row at rule.form rule.first rule.count frames (parts_in self.now.arena self.now.parts) self.now.far }
+        ensures means { (frames : List Pending) → after_turn self.now.arena result frames ≡ called_form tokens.now row at rule.form rule.first rule.count frames (parts_in self.now.arena self.now.parts) self.now.far }
         ensures within { (n : ℕ) → self.now.parts ≤ n → TurnWithin n result }
     {
         let first = rule.first as u64;
@@ -196,8 +196,8 @@ impl Machine {
     // What a call comes to: at once to what is remembered of the row, or else to its beginning.
     fn call(&self, tokens: &Tokens, rules: &[Rule], row: u64, at: u32) -> Result<Turn, AllocError>
         requires list { self.now.parts ≤ length self.now.arena }
-        requires memory { All (IsRight (kinds_of tokens.now) rules.now self.now.arena) self.now.memory }
-        ensures means { IfOk result (λ turn. (frames : List Pending) → Leads (kinds_of tokens.now) rules.now (Calling row at frames (parts_in self.now.arena self.now.parts) self.now.far) (after_turn self.now.arena turn frames)) }
+        requires memory { All (IsRight tokens.now rules.now self.now.arena) self.now.memory }
+        ensures means { IfOk result (λ turn. (frames : List Pending) → Leads tokens.now rules.now (Calling row at frames (parts_in self.now.arena self.now.parts) self.now.far) (after_turn self.now.arena turn frames)) }
         ensures within { IfOk result (λ turn. TurnWithin (length self.now.arena) turn) }
     {
         let Ok(number) = u32::try_from(row) else {
@@ -269,8 +269,8 @@ impl Machine {
 
     // The turn that is next, if there is one, without its frame and with what is remembered of it.
     fn next(&mut self, tokens: &Tokens, rules: &[Rule]) -> Result<Option<Turn>, AllocError>
-        requires { Stands (kinds_of tokens.now) rules.now self.old }
-        ensures { IfOk result (IsPrepared (kinds_of tokens.now) rules.now self.old self.new) }
+        requires { Stands tokens.now rules.now self.old }
+        ensures { IfOk result (IsPrepared tokens.now rules.now self.old self.new) }
     {
         match self.task {
             Task::Call { row, at } => {
@@ -322,9 +322,9 @@ impl Machine {
     /// Goes on by one turn or by the turns whose outcome is remembered, unless it is at the end.
     pub fn turn(&mut self, tokens: &Tokens, rules: &[Rule]) -> Result<bool, AllocError>
         requires no_left_recursion { HasNoLeftRecursion rules.now }
-        requires stands { Stands (kinds_of tokens.now) rules.now self.old }
-        ensures stands { OnOk result (Stands (kinds_of tokens.now) rules.now self.new) }
-        ensures turned { IfOk result (HasTurned (kinds_of tokens.now) rules.now self.old self.new) }
+        requires stands { Stands tokens.now rules.now self.old }
+        ensures stands { OnOk result (Stands tokens.now rules.now self.new) }
+        ensures turned { IfOk result (HasTurned tokens.now rules.now self.old self.new) }
     {
         match self.next(tokens, rules)? {
             None => Ok(false),

@@ -2,7 +2,6 @@
 
 ghost use Rattle.std.specs.Prelude.{◌≡◌, ℕ, [], ◌∷◌, map, length};
 ghost use Rattle.rl_phrase.specs.declared.phrase.PhraseFault.TheVariants.{OutOfMemory};
-ghost use Rattle.rl_tokens.specs.Token.{kinds_of};
 ghost use Rattle.rl_phrase.specs.Tree.{Tree, Trees, Node};
 ghost use Rattle.rl_phrase.specs.Steps.{tree_steps};
 ghost use Rattle.rl_phrase.specs.View.{view, tree_of};
@@ -74,7 +73,7 @@ pub fn phrase(
 ) -> Result<Phrase, PhraseFault>
     requires named { IsNamed rules.now start }
     requires no_left_recursion { HasNoLeftRecursion rules.now }
-    ensures { Answers (kinds_of tokens.now) rules.now start result }
+    ensures { Answers tokens.now rules.now start result }
 {
     match run_machine(alloc, tokens, rules, start)? {
         Ending::Failed(far) => Err(PhraseFault::Stopped { token: far }),

@@ -1,7 +1,6 @@
 // The loop.
 
 ghost use Rattle.std.specs.Prelude.{◌≡◌, IfOk};
-ghost use Rattle.rl_tokens.specs.Token.{kinds_of};
 ghost use Rattle.rl_phrase.specs.Search.{Shows};
 ghost use Rattle.rl_phrase.specs.LeftRecursion.{HasNoLeftRecursion};
 
@@ -31,7 +30,7 @@ pub fn run_machine(
     start: u32,
 ) -> Result<Ending, AllocError>
     requires { HasNoLeftRecursion rules.now }
-    ensures { IfOk result (Shows (kinds_of tokens.now) rules.now start) }
+    ensures { IfOk result (Shows tokens.now rules.now start) }
 {
     let mut machine = Machine {
         task: Task::Call {

@@ -130,7 +130,7 @@ fn nothing_is_put_after_a_put_that_failed(rt: HostRuntime) -> Result<(), Fail> {
         for part in 0..3u32 {
             let mut files = MemFiles::new(rt.alloc());
             files.add("Main.rsc", THREE.as_bytes())?;
-            let left = left(
+            let left = run_over(
                 rt.alloc(),
                 &["run", "Main"],
                 &mut files,

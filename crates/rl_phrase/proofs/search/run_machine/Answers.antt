@@ -1,6 +1,5 @@
 use Rattle.std.proofs.Common.{◌≡◌, None, ◌∙◌, sym, subst, ap, arith}
 use Rattle.std.proofs.lemmas.List.Elements.{All-nil}
-use Rattle.rl_tokens.specs.Token.{kinds_of}
 use Rattle.rl_phrase.specs.Steps.{steps_of}
 use Rattle.rl_phrase.specs.Machine.{turned, Going, turn}
 use Rattle.rl_phrase.specs.Arena.{parts_in}
@@ -14,26 +13,26 @@ pub turns-init : goal.turns-init
 turns-init c =
     rw (c.new.ensures, c.new-2.ensures, c.new-3.ensures) (record {
       stands = record { list = omega arith; frames = tt; memory = All-nil _; way = tt };
-      ends = start_ends (kinds_of c.args.tokens.now) c.args.rules.now c.requires c.args.start;
+      ends = start_ends c.args.tokens.now c.args.rules.now c.requires c.args.start;
     })
 
 pub turns-smaller : goal.turns-smaller
 turns-smaller c =
-    less_leads (kinds_of c.args.tokens.now) c.args.rules.now c.args.start (state_of c.turns.machine) (state_of c.turn.new.self)
-    (subst (λ b. HasTurned (kinds_of c.args.tokens.now) c.args.rules.now c.turns.machine c.turn.new.self b) c.if-branch.true c.in_ok-turn.ensures.turned) c.turns.invariant.ends
+    less_leads c.args.tokens.now c.args.rules.now c.args.start (state_of c.turns.machine) (state_of c.turn.new.self)
+    (subst (λ b. HasTurned c.args.tokens.now c.args.rules.now c.turns.machine c.turn.new.self b) c.if-branch.true c.in_ok-turn.ensures.turned) c.turns.invariant.ends
 
 pub turns-preserved : goal.turns-preserved
 turns-preserved c =
     record {
       stands = c.in_ok-turn.ensures.stands;
       ends =
-          ends_leads (kinds_of c.args.tokens.now) c.args.rules.now c.args.start (state_of c.turns.machine) (state_of c.turn.new.self)
-          (subst (λ b. HasTurned (kinds_of c.args.tokens.now) c.args.rules.now c.turns.machine c.turn.new.self b) c.if-branch.true c.in_ok-turn.ensures.turned) c.turns.invariant.ends;
+          ends_leads c.args.tokens.now c.args.rules.now c.args.start (state_of c.turns.machine) (state_of c.turn.new.self)
+          (subst (λ b. HasTurned c.args.tokens.now c.args.rules.now c.turns.machine c.turn.new.self b) c.if-branch.true c.in_ok-turn.ensures.turned) c.turns.invariant.ends;
     }
 
 pub returns-in-Succeed : goal.returns-in-Succeed
 returns-in-Succeed c =
-    let tokens = kinds_of c.args.tokens.now in
+    let tokens = c.args.tokens.now in
     let rules = c.args.rules.now in
     let m = c.turn.new.self in
     let old = c.turns.machine in

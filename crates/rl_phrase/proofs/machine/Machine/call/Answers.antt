@@ -2,7 +2,6 @@ use Rattle.std.proofs.Common.{◌≡◌, ◌<◌, length, Some, ap, ◌∙◌, s
 use Rattle.std.specs.Prelude.{slice_get}
 use Rattle.std.proofs.lemmas.Bool.{ltb-true}
 use Rattle.std.proofs.lemmas.Option.{slice_get_read}
-use Rattle.rl_tokens.specs.Token.{kinds_of}
 use Rattle.rl_phrase.specs.Phr.{Phr}
 use Rattle.rl_phrase.specs.Machine.{Calling, called}
 use Rattle.rl_phrase.specs.Arena.{parts_in}
@@ -13,7 +12,7 @@ use Rattle.rl_phrase.proofs.machine.Machine.call.Goals as goal
 
 pub returns-clause-means : goal.returns-clause-means
 returns-clause-means c frames =
-    let tokens = kinds_of c.args.tokens.now in
+    let tokens = c.args.tokens.now in
     let rules = c.args.rules.now in
     let cells = c.args.self.now.arena in
     let entry = c.in-Some-recall.entry in
@@ -29,12 +28,12 @@ returns-clause-means c frames =
 pub returns-clause-within : goal.returns-clause-within
 returns-clause-within c =
     let cells = c.args.self.now.arena in
-    let right = remembered (kinds_of c.args.tokens.now) c.args.rules.now cells c.args.self.now.memory c.in-Some-recall.entry c.requires.memory c.in-Some-recall.ensures.2 in
+    let right = remembered c.args.tokens.now c.args.rules.now cells c.args.self.now.memory c.in-Some-recall.entry c.requires.memory c.in-Some-recall.ensures.2 in
     c.recalled.ensures.within (length cells) c.requires.list right.0
 
 pub returns-2-clause-means : goal.returns-2-clause-means
 returns-2-clause-means c frames =
-    let tokens = kinds_of c.args.tokens.now in
+    let tokens = c.args.tokens.now in
     let rules = c.args.rules.now in
     let cells = c.args.self.now.arena in
     let parts = parts_in cells c.args.self.now.parts in

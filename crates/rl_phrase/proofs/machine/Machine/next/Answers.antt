@@ -1,5 +1,4 @@
 use Rattle.std.proofs.Common.{◌≡◌, ◌∷◌, length, Some, ap, ◌∙◌, sym, subst, arith}
-use Rattle.rl_tokens.specs.Token.{kinds_of}
 use Rattle.rl_phrase.specs.Machine.{Calling, Going, Failing}
 use Rattle.rl_phrase.specs.Arena.{parts_in}
 use Rattle.rl_phrase.specs.State.{frame_in, frames_in, state_in, state_of, after_turn, FramesWithin, Leads}
@@ -17,12 +16,12 @@ returns-in_ok-turn-in-Call c =
       frames = c.requires.frames;
       within = c.in_ok-turn-in-Call.ensures.within;
       memory = c.requires.memory;
-      leads = subst (λ s. Leads (kinds_of c.args.tokens.now) c.args.rules.now s (after_turn m.arena c.in_ok-turn-in-Call.turn frames)) (sym from) (c.in_ok-turn-in-Call.ensures.means frames);
+      leads = subst (λ s. Leads c.args.tokens.now c.args.rules.now s (after_turn m.arena c.in_ok-turn-in-Call.turn frames)) (sym from) (c.in_ok-turn-in-Call.ensures.means frames);
     }
 
 pub returns-in_ok-remember_success-in-Succeed : goal.returns-in_ok-remember_success-in-Succeed
 returns-in_ok-remember_success-in-Succeed c =
-    let tokens = kinds_of c.args.tokens.now in
+    let tokens = c.args.tokens.now in
     let rules = c.args.rules.now in
     let m = c.args.self.now in
     let at = c.in-Succeed.at in
@@ -44,7 +43,7 @@ returns-in_ok-remember_success-in-Succeed c =
 
 pub returns-in_ok-remember_failure-in-Fail : goal.returns-in_ok-remember_failure-in-Fail
 returns-in_ok-remember_failure-in-Fail c =
-    let tokens = kinds_of c.args.tokens.now in
+    let tokens = c.args.tokens.now in
     let rules = c.args.rules.now in
     let m = c.args.self.now in
     let frame = c.in-Some-pop.frame in

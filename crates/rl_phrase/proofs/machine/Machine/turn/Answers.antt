@@ -1,6 +1,5 @@
 use Rattle.std.proofs.Common.{suc, sym, subst}
 use Rattle.std.specs.List.{All}
-use Rattle.rl_tokens.specs.Token.{kinds_of}
 use Rattle.rl_phrase.specs.State.{state_of, frames_in, after_turn, IsRight}
 use Rattle.rl_phrase.specs.Awaits.{IsOnTheWay}
 use Rattle.rl_phrase.specs.Stands.{IsPrepared}
@@ -10,7 +9,7 @@ use Rattle.rl_phrase.proofs.machine.Machine.turn.Goals as goal
 
 pub returns-in_ok-take-in-Some-clause-stands : goal.returns-in_ok-take-in-Some-clause-stands
 returns-in_ok-take-in-Some-clause-stands c =
-    let tokens = kinds_of c.args.tokens.now in
+    let tokens = c.args.tokens.now in
     let rules = c.args.rules.now in
     let old = c.args.self.now in
     let ready = c.next.new.self in
