@@ -125,41 +125,45 @@ fn a_failed_read_leaves_both_sinks_empty(rt: HostRuntime) -> Result<(), Fail> {
 }
 
 #[test]
-fn nothing_is_put_after_a_put_that_failed(rt: HostRuntime) -> Result<(), Fail> {
-    for put in 1..4u32 {
-        for part in 0..3u32 {
-            let mut files = MemFiles::new(rt.alloc());
-            files.add("Main.rsc", THREE.as_bytes())?;
-            let left = run_over(
-                rt.alloc(),
-                &["run", "Main"],
-                &mut files,
-                &[(put, part)],
-                &[],
-            )?;
-            let told = 4 * (put as usize - 1) + part as usize;
-            assert_eq!(rt;
-                left.out.bytes(),
-                &b"one\ntwo\nsix\n"[..told],
-                "{put} {part}"
-            );
-            assert_eq!(rt; left.err.bytes(), b"".as_slice(), "{put} {part}");
-            assert_eq!(rt; left.status, Status::SinkFault, "{put} {part}");
-        }
-    }
-    for (text, line) in [(THREE, USAGE_LINE), ("", "Main.rsc:1:1: M12\n")] {
-        let words: &[&str] = if text.is_empty() {
-            &["run", "Main"]
-        } else {
-            &[]
-        };
+fn nothing_is_put_after_a_put_on_out_that_failed(rt: HostRuntime) -> Result<(), Fail> {
+    let rows: [(u32, u32, &str); 9] = [
+        (1, 0, ""),
+        (1, 1, "o"),
+        (1, 2, "on"),
+        (2, 0, "one\n"),
+        (2, 1, "one\nt"),
+        (2, 2, "one\ntw"),
+        (3, 0, "one\ntwo\n"),
+        (3, 1, "one\ntwo\ns"),
+        (3, 2, "one\ntwo\nsi"),
+    ];
+    for (put, part, out) in rows {
         let mut files = MemFiles::new(rt.alloc());
-        files.add("Main.rsc", text.as_bytes())?;
+        files.add("Main.rsc", THREE.as_bytes())?;
+        let left = run_over(
+            rt.alloc(),
+            &["run", "Main"],
+            &mut files,
+            &[(put, part)],
+            &[],
+        )?;
+        assert_eq!(rt; left.out.bytes(), out.as_bytes(), "{put} {part}");
+        assert_eq!(rt; left.err.bytes(), b"".as_slice(), "{put} {part}");
+        assert_eq!(rt; left.status, Status::SinkFault, "{put} {part}");
+    }
+    Ok(())
+}
+
+#[test]
+fn a_put_on_err_that_fails_leaves_a_front_of_its_line(rt: HostRuntime) -> Result<(), Fail> {
+    let rows: [(&[&str], &str); 2] = [(&["run"], "usage"), (&["run", "Main"], "Main.")];
+    for (words, err) in rows {
+        let mut files = MemFiles::new(rt.alloc());
         let left = run_over(rt.alloc(), words, &mut files, &[], &[(1, 5)])?;
-        assert_eq!(rt; left.out.bytes(), b"".as_slice());
-        assert_eq!(rt; left.err.bytes(), &line.as_bytes()[..5]);
-        assert_eq!(rt; left.status, Status::SinkFault);
-        assert_eq!(rt; left.status.code(), 73);
+        assert_eq!(rt; left.out.bytes(), b"".as_slice(), "{err}");
+        assert_eq!(rt; left.err.bytes(), err.as_bytes(), "{err}");
+        assert_eq!(rt; left.status, Status::SinkFault, "{err}");
+        assert_eq!(rt; left.status.code(), 73, "{err}");
     }
     Ok(())
 }
