@@ -1,0 +1,10 @@
+//! The definitions of syntax that a module writes, as they stand in its text.
+#![tactic(auto)]
+
+pub mod definition;
+pub mod name;
+pub mod symbol;
+
+pub use definition::{Alt, Assoc, Level, Prod, SyntaxDef, SyntaxRole};
+pub use name::Name;
+pub use symbol::{After, Atom, CharClass, Limit, Near, Rep, Sym};
