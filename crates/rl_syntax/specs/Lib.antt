@@ -1,0 +1,5 @@
+pub mod Table
+pub mod Ty
+pub mod Pattern
+pub mod Expression
+pub mod Statement

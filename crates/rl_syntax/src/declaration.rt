@@ -1,0 +1,85 @@
+//! What stands at the top of a module.
+
+use crate::expression::Exp;
+use crate::identifier::Identifier;
+use crate::pattern::Pattern;
+use crate::statement::Stat;
+use crate::ty::{Field, Ty};
+use rl_base::{Place, Row, Shared};
+use rl_grammar::{Name, SyntaxDef};
+
+/// A declaration. Its place is that of its first token.
+#[derive(Drop)]
+pub enum Decl {
+    /// `import M;`
+    Import {
+        place: Place,
+        module: Name,
+    },
+    /// `extend M;`
+    Extend {
+        place: Place,
+        module: Name,
+    },
+    /// `syntax S = ..;` and the like. The place is in the definition.
+    Syntax(Shared<SyntaxDef>),
+    /// `data T = variants;`, without variants where they stand elsewhere. The word `public` before it has no meaning.
+    Data {
+        place: Place,
+        name: Identifier,
+        variants: Row<Variant>,
+    },
+    /// `T x = e;`
+    Global {
+        place: Place,
+        /// Whether other modules see it not, as `private` says.
+        private: bool,
+        ty: Shared<Ty>,
+        name: Identifier,
+        value: Shared<Exp>,
+    },
+    /// An alternative of a function.
+    Function(Shared<Function>),
+}
+
+/// `name(T field, ..)`: a constructor of a data type.
+#[derive(Drop)]
+pub struct Variant {
+    pub name: Identifier,
+    pub fields: Row<Field>,
+}
+
+/// An alternative of a function.
+#[derive(Drop)]
+pub struct Function {
+    pub place: Place,
+    /// Whether other modules see it not, as `private` says.
+    pub private: bool,
+    pub modifier: Option<Modifier>,
+    /// The type of its results.
+    pub ty: Ty,
+    pub name: Identifier,
+    pub parameters: Row<Shared<Pattern>>,
+    pub body: Body,
+}
+
+/// What may stand before the type of a function.
+#[derive(Clone, Copy, Debug, PartialEq, Eq)]
+pub enum Modifier {
+    /// `default`: the alternatives without it come first.
+    Default,
+    /// `test`: a test of the module.
+    Test,
+}
+
+/// The body of a function.
+#[derive(Drop)]
+pub enum Body {
+    /// `= e when conditions;`
+    Value {
+        value: Shared<Exp>,
+        conditions: Row<Shared<Exp>>,
+    },
+    /// `{ statements }`
+    Statements(Row<Shared<Stat>>),
+}

@@ -1,0 +1,105 @@
+//! Types as they are written.
+
+ghost use Rattle.std.specs.Prelude.{◌≡◌};
+ghost use Rattle.rl_syntax.specs.Ty.{place_of_ty};
+
+use crate::identifier::Identifier;
+use rl_base::{Place, Row, Shared};
+use rl_grammar::Name;
+
+/// A type. Its place is that of its first token; a type that was not written has the place of what it is the type of.
+#[cycle(ty)]
+#[derive(Drop)]
+pub enum Ty {
+    /// `list[T]`
+    List {
+        place: Place,
+        element: Shared<Ty>,
+    },
+    /// `set[T]`
+    Set {
+        place: Place,
+        element: Shared<Ty>,
+    },
+    /// `map[K, V]`
+    Map {
+        place: Place,
+        key: Shared<Ty>,
+        value: Shared<Ty>,
+    },
+    /// `tuple[T, ..]`
+    Tuple {
+        place: Place,
+        fields: Row<Field>,
+    },
+    /// `rel[T, ..]`: a set of tuples.
+    Relation {
+        place: Place,
+        fields: Row<Field>,
+    },
+    /// `lrel[T, ..]`: a list of tuples.
+    ListRelation {
+        place: Place,
+        fields: Row<Field>,
+    },
+    /// `bool`
+    Bool {
+        place: Place,
+    },
+    /// `int`
+    Int {
+        place: Place,
+    },
+    /// `str`
+    Str {
+        place: Place,
+    },
+    /// `loc`
+    Loc {
+        place: Place,
+    },
+    /// `void`: no value has it, and it is below all types.
+    Void {
+        place: Place,
+    },
+    /// `value`: all values have it.
+    Value {
+        place: Place,
+    },
+    /// A data type or a sort.
+    Named {
+        place: Place,
+        name: Name,
+    },
+}
+
+impl Ty {
+    /// Its place.
+    pub fn place(&self) -> Place
+        ensures { result ≡ place_of_ty self.now }
+    {
+        match self {
+            Ty::List { place, .. }
+            | Ty::Set { place, .. }
+            | Ty::Map { place, .. }
+            | Ty::Tuple { place, .. }
+            | Ty::Relation { place, .. }
+            | Ty::ListRelation { place, .. }
+            | Ty::Bool { place }
+            | Ty::Int { place }
+            | Ty::Str { place }
+            | Ty::Loc { place }
+            | Ty::Void { place }
+            | Ty::Value { place }
+            | Ty::Named { place, .. } => *place,
+        }
+    }
+}
+
+/// `T name` or `T`: a field of a constructor, or a part of a tuple type, where a name has no meaning.
+#[cycle(ty)]
+#[derive(Drop)]
+pub struct Field {
+    pub ty: Shared<Ty>,
+    pub name: Option<Identifier>,
+}
