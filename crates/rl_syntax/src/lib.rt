@@ -1,6 +1,9 @@
 //! The forms of modules, and the table by which their phrases are found.
 #![tactic(auto)]
 
+pub mod bound;
+#[cfg(test)]
+mod bound_tests;
 pub mod declaration;
 pub mod expression;
 pub mod fragment;
@@ -19,6 +22,7 @@ mod rules_tests;
 pub mod statement;
 pub mod ty;
 
+pub use bound::bound_variables;
 pub use declaration::{Body, Decl, Function, Modifier, Variant};
 pub use expression::{Exp, Suffix};
 pub use fragment::{Concrete, Piece};
