@@ -102,7 +102,9 @@ fn leaves_of<'a>(parts: &'a [Value]) -> Leaves<'a>
     }
 }
 
-/// The order of two texts, each that of these parts.
+/// The order of two texts, each that of these parts. It keeps two places of 2,000 levels on the stack, so it stays out of
+/// the recursion that calls it.
+#[inline(never)]
 pub(crate) fn compare_texts(a: &[Value], b: &[Value]) -> Ordering
     requires a { plains_height (plains_of a.now) < 2000 }
     requires b { plains_height (plains_of b.now) < 2000 }

@@ -172,6 +172,27 @@ fn keeps_to_the_height(rt: HostRuntime) -> Result<(), Fail> {
     Ok(())
 }
 
+/// A tree at the limit, with a leaf of this sort in its innermost tree.
+fn high_tree(alloc: Global, sort: &str) -> Result<Value, BuildEnd> {
+    let mut high = word(alloc, Role::Lexical, sort, "x")?;
+    for _ in 2..MAX_HEIGHT {
+        let mut inside = Vec::new(alloc);
+        inside.push(high)?;
+        high = tree_of(alloc, shape(alloc, Role::Syntax, "S")?, inside)?;
+    }
+    Ok(high)
+}
+
+/// Trees at the limit that have one text, and differ in the innermost, are compared.
+#[test]
+fn orders_high_trees(rt: HostRuntime) -> Result<(), Fail> {
+    let a = high_tree(rt.alloc(), "A")?;
+    let b = high_tree(rt.alloc(), "B")?;
+    assert_eq!(rt; a.height(), MAX_HEIGHT);
+    assert!(rt; a < b);
+    Ok(())
+}
+
 #[test]
 fn sorts_many_elements(rt: HostRuntime) -> Result<(), Fail> {
     let alloc = rt.alloc();
