@@ -1,3 +1,4 @@
+pub mod Declaration
 pub mod Table
 pub mod Ty
 pub mod Bound

@@ -1,5 +1,8 @@
 //! What stands at the top of a module.
 
+ghost use Rattle.std.specs.Prelude.{◌≡◌};
+ghost use Rattle.rl_syntax.specs.Declaration.{place_of_declaration};
+
 use crate::expression::Exp;
 use crate::identifier::Identifier;
 use crate::pattern::Pattern;
@@ -40,6 +43,22 @@ pub enum Decl {
     },
     /// An alternative of a function.
     Function(Shared<Function>),
+}
+
+impl Decl {
+    /// Where it begins.
+    pub fn place(&self) -> Place
+        ensures { result ≡ place_of_declaration self.now }
+    {
+        match self {
+            Decl::Import { place, .. }
+            | Decl::Extend { place, .. }
+            | Decl::Data { place, .. }
+            | Decl::Global { place, .. } => *place,
+            Decl::Syntax(definition) => definition.get().place,
+            Decl::Function(function) => function.get().place,
+        }
+    }
 }
 
 /// `name(T field, ..)`: a constructor of a data type.
