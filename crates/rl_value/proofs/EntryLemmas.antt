@@ -5,7 +5,7 @@ use Rattle.std.specs.declared.cmp.Ordering.{Ordering}
 use Rattle.std.specs.declared.cmp.Ordering.TheVariants.{Less, Equal, Greater}
 use Rattle.std.specs.Ordering.{nat_cmp, match_ordering}
 use Rattle.std.specs.BTreeMap.{insert_entry}
-use Rattle.rl_value.specs.Plain.{Plain, pairs_of, plain_size, pairs_size}
+use Rattle.rl_value.specs.Plain.{Plain, pairs_of, entries_of, entries_of-pairs_of, plain_size, pairs_size}
 use Rattle.rl_value.specs.Order.{plain_cmp, pairs_cmp}
 use Rattle.rl_value.specs.Laws.{plain_cmp_total, plain_exact}
 use Rattle.rl_value.specs.Rising.{Rises, placed, put}
@@ -58,3 +58,7 @@ pairs_cmp_end a b n e =
     let lb : length (drop n b) ≡ length b - min (length a) (length b) = omega (arith, length-drop n b) in
     let ends : (length (drop n a) ≡ 0) ⊎ (length (drop n b) ≡ 0) = rw (la, lb) (one_ends (length a) (length b)) in
     by_lengths (drop n a) (drop n b) ends ∙ rw (la, lb) (nat_cmp-less (length a) (length b))
+
+-- the keys of a map that is opened
+pub opened : (es : List Entry) → map (λ p. p.0) (entries_of (pairs_of (map pair_of es))) ≡ map (λ e. e.key) es
+opened es = rw entries_of-pairs_of (keys-pairs es)

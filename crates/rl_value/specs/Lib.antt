@@ -10,3 +10,4 @@ pub mod Readers
 pub mod Rising
 pub mod Rose
 pub mod View
+pub mod Opened

@@ -7,6 +7,7 @@ pub mod collect;
 mod kids;
 pub mod kind;
 mod leaves;
+pub mod open;
 mod order;
 mod rank;
 pub mod readers;
@@ -19,8 +20,9 @@ pub use build::{MAX_HEIGHT, MAX_SIZE, int, leaf, list, location, node, text, tre
 pub use build_end::BuildEnd;
 pub use collect::{map, set};
 pub use kind::Kind;
+pub use open::Opened;
 pub use shape::{Role, Scheme, Shape};
-pub use value::Value;
+pub use value::{Entry, Value};
 
 #[cfg(test)]
 mod tests;

@@ -67,9 +67,9 @@ pub(crate) struct Branch {
 /// A key of a map, with its value.
 #[cycle(value)]
 #[derive(Debug, Drop)]
-pub(crate) struct Entry {
-    pub(crate) key: Value,
-    pub(crate) value: Value,
+pub struct Entry {
+    pub key: Value,
+    pub value: Value,
 }
 
 /// The keys and values of a map, with its size and height.
