@@ -1,0 +1,4 @@
+use Rattle.rl_exception.proofs.building.fitted_set.Goals as goal
+
+pub returns : goal.returns
+returns c = c.fitted.ensures _ c.set.ensures

@@ -1,0 +1,6 @@
+use Rattle.rl_exception.specs.Answer.{fits, throwing}
+use Rattle.rl_exception.proofs.exceptions.divided_by_zero.Goals as goal
+
+pub returns : goal.returns
+unfolding throwing fits
+returns c = c.arithmetic_exception.ensures
