@@ -1,0 +1,5 @@
+pub mod ArithmeticLemmas
+pub mod ListLemmas
+pub mod PairLemmas
+pub mod ProductLemmas
+pub mod SetLemmas
