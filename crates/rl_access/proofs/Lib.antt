@@ -1,0 +1,4 @@
+pub mod RowLemmas
+pub mod EntryOrder
+pub mod SliceLemmas
+pub mod StepLemmas

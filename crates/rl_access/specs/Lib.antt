@@ -1,0 +1,7 @@
+pub mod Operands
+pub mod Rows
+pub mod Elements
+pub mod Slices
+pub mod Ranges
+pub mod Fields
+pub mod Changes

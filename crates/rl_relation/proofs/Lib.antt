@@ -1,0 +1,3 @@
+pub mod LargeLemmas
+pub mod MemberLemmas
+pub mod PairLemmas

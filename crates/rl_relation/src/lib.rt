@@ -1,0 +1,11 @@
+//! Relations: sets of pairs.
+#![tactic(auto)]
+
+mod composition;
+mod pairs;
+mod projections;
+mod restrictions;
+
+pub use composition::compose;
+pub use projections::{carrier, domain, invert, range};
+pub use restrictions::{domain_excluded, domain_restricted, range_excluded, range_restricted};
