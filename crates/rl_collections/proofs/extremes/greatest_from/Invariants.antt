@@ -1,0 +1,7 @@
+use Rattle.std.proofs.Common.{◌≡◌, take}
+use Rattle.std.specs.List.{fold}
+use Rattle.rl_collections.specs.Extremes.{larger}
+use Rattle.rl_collections.proofs.extremes.greatest_from.Given as goal
+
+abbrev pub invariant-loop-item : goal.invariant-loop-item
+invariant-loop-item l = l.best ≡ fold larger l.first (take l.item-index l.others)

@@ -1,0 +1,8 @@
+pub mod Ends
+pub mod Extremes
+pub mod Lists
+pub mod Maps
+pub mod Repeats
+pub mod Sizes
+pub mod Sorting
+pub mod Sums

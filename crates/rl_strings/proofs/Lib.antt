@@ -1,0 +1,5 @@
+mod JoiningLemmas
+mod NumbersLemmas
+mod PiecesLemmas
+mod SearchLemmas
+mod TrimmingLemmas

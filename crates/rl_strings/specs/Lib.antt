@@ -1,0 +1,6 @@
+pub mod Joining
+pub mod Numbers
+pub mod Parts
+pub mod Pieces
+pub mod Search
+pub mod Trimming
