@@ -1,0 +1,83 @@
+-- The variables of one scope, after a change of its map.
+use Rattle.std.proofs.Common.{◌≡◌, ℕ, Bool, true, false, cond, List, [], ◌∷◌, Option, Some, None, Result, Ok, Err, refl, sym, ap, ◌∙◌, subst}
+use Rattle.std.specs.Bool.{IsTrue}
+use Rattle.std.specs.Option.{is_some, IsSome}
+use Rattle.std.specs.Ordering.{nat_cmp, is_eq, eq_by_cmp}
+use Rattle.std.specs.Cmp.{eq_by_cmp_equiv, nat_cmp_total}
+use Rattle.std.specs.Map.{lookup}
+use Rattle.std.specs.BTreeMap.{BTreeMap, Updates, is_at}
+use Rattle.std.specs.BTreeMap as tree
+use Rattle.std.specs.FinMap.{get, get-empty, same_map, nat_cmp-IsAntisymmetric}
+use Rattle.std.proofs.lemmas.Map.Made.{is_some-lookup}
+use Rattle.rl_value.specs.Plain.{Plain}
+use Rattle.rl_store.specs.declared.slots.Slot.{Slot}
+use Rattle.rl_store.specs.Scope.{Scope, changed}
+use Rattle.rl_store.specs.Rooms.{has_room}
+use Rattle.rl_store.specs.Slots.{values_of, rooms_of, value_in}
+use Rattle.rl_store.proofs.Laying.{get-changed, is_eq-Equal}
+
+cond-value_in : (b : Bool) (s : Slot) (o : Option Slot) → cond b s.value (value_in o) ≡ value_in (cond b (Some s) o)
+cond-value_in true s o = refl
+cond-value_in false s o = refl
+
+pub get-values_of : (x : ℕ) (es : List (ℕ × Slot)) → get (values_of es) x ≡ value_in (lookup (is_at (nat_cmp x)) es)
+get-values_of x [] = get-empty nat_cmp x
+get-values_of x (e ∷ es) =
+    get-changed (values_of es) e.0 e.1.value x
+    ∙ ap (cond (is_eq (nat_cmp x e.0)) e.1.value) (get-values_of x es)
+    ∙ cond-value_in (is_eq (nat_cmp x e.0)) e.1 (lookup (is_at (nat_cmp x)) es)
+
+turned : (x y : ℕ) → is_eq (nat_cmp x y) ≡ is_eq (nat_cmp y x)
+turned = (eq_by_cmp_equiv nat_cmp_total).symm
+
+pub values-insert : (m n : BTreeMap ℕ Slot) (k : ℕ) (s : Slot) → Updates nat_cmp m n k (Some s) → values_of n.entries ≡ changed (values_of m.entries) k s.value
+values-insert m n k s u = same_map nat_cmp_total nat_cmp-IsAntisymmetric _ _ (λ q.
+    get-values_of q n.entries
+    ∙ ap value_in (u.0 q)
+    ∙ sym (cond-value_in (is_eq (nat_cmp k q)) s (tree.get nat_cmp m q))
+    ∙ ap (λ b. cond b s.value (value_in (tree.get nat_cmp m q))) (turned k q)
+    ∙ ap (cond (is_eq (nat_cmp q k)) s.value) (sym (get-values_of q m.entries))
+    ∙ sym (get-changed (values_of m.entries) k s.value q))
+
+pub has_room-get : (m : BTreeMap ℕ Slot) (x : ℕ) → has_room (rooms_of m.entries) x ≡ is_some (tree.get nat_cmp m x)
+has_room-get m x = sym (is_some-lookup (is_at (nat_cmp x)) m.entries)
+
+is_some-cond : (b : Bool) (s : Slot) (o : Option Slot) → IsTrue (is_some o) → IsTrue (is_some (cond b (Some s) o))
+is_some-cond true s o h = refl
+is_some-cond false s o h = h
+
+pub has_room-stays : (m n : BTreeMap ℕ Slot) (k : ℕ) (s : Slot) → Updates nat_cmp m n k (Some s) → (q : ℕ) → IsTrue (has_room (rooms_of m.entries) q) → IsTrue (has_room (rooms_of n.entries) q)
+has_room-stays m n k s u q h =
+    rw (has_room-get n q, u.0 q) (is_some-cond (is_at (nat_cmp k) q) s (tree.get nat_cmp m q) (rw (has_room-get m q) at h))
+
+pub has_room-insert : (m n : BTreeMap ℕ Slot) (k : ℕ) (s : Slot) → Updates nat_cmp m n k (Some s) → IsTrue (has_room (rooms_of n.entries) k)
+has_room-insert m n k s u = rw (has_room-get n k, u.1) refl
+
+no_value : (o : Option Slot) → is_some o ≡ false → value_in o ≡ None
+no_value None h = refl
+no_value (Some s) h = (cc)
+
+absent : (b : Bool) (o : Option Plain) → (b ≡ true → o ≡ None) → cond b None o ≡ o
+absent true o h = sym (h refl)
+absent false o h = refl
+
+-- room for a variable that has none is no value
+pub values-room : (m n : BTreeMap ℕ Slot) (k : ℕ) (s : Slot) → Updates nat_cmp m n k (Some s) → s.value ≡ None → is_some (tree.get nat_cmp m k) ≡ false → values_of n.entries ≡ values_of m.entries
+values-room m n k s u v h = values-insert m n k s u ∙ same_map nat_cmp_total nat_cmp-IsAntisymmetric _ _ (λ q.
+    get-changed (values_of m.entries) k s.value q
+    ∙ ap (λ o. cond (is_eq (nat_cmp q k)) o (get (values_of m.entries) q)) v
+    ∙ absent (is_eq (nat_cmp q k)) (get (values_of m.entries) q) (λ e. get-values_of q m.entries ∙ no_value _ (subst (λ x. is_some (tree.get nat_cmp m x) ≡ false) (sym (nat_cmp-IsAntisymmetric q k (is_eq-Equal _ e))) h)))
+
+known : (o : Option Slot) → is_some o ≡ true → o ≡ None → ⊥
+known o h e = let k : is_some o ≡ false = rw e refl in (cc)
+
+-- a variable with room is not refused
+pub has_room-known : (m : BTreeMap ℕ Slot) (x : ℕ) → IsTrue (has_room (rooms_of m.entries) x) → tree.get nat_cmp m x ≡ None → ⊥
+has_room-known m x h e = known (tree.get nat_cmp m x) (sym (has_room-get m x) ∙ h) e
+
+IsSome-is_some : (o : Option Slot) → is_some o ≡ true → IsSome o
+IsSome-is_some None h = (cc)
+IsSome-is_some (Some s) h = refl
+
+pub was_known : (m : BTreeMap ℕ Slot) (x : ℕ) (o : Option Slot) → IsTrue (has_room (rooms_of m.entries) x) → o ≡ tree.get nat_cmp m x → IsSome o
+was_known m x o h e = IsSome-is_some o (ap is_some e ∙ sym (has_room-get m x) ∙ h)

@@ -1,0 +1,28 @@
+use Rattle.std.proofs.Common.{◌<◌, ◌-◌, length, sym, subst, rules}
+use Rattle.std.specs.Bool.{IsTrue}
+use Rattle.rl_store.specs.Rooms.{Variables, has_room}
+use Rattle.rl_store.proofs.Inner.{inner_room, inner_changed, inner_same_rooms}
+use Rattle.rl_store.proofs.scopes.Scopes.set.Goals as goal
+
+pub index_mut-requires : goal.index_mut-requires
+index_mut-requires c =
+    let h : c.args.place - 1 < length c.self.inside.inner.items = (inner_room c.self.inside.first c.self.inside.inner.items c.args.self.now c.args.place c.args.variable c.self.inside.first c.self.view_is c.if-place-eq0.false c.requires).0 in
+    search (rules, h)
+
+pub set-requires-else-place-eq0 : goal.set-requires-else-place-eq0
+set-requires-else-place-eq0 c =
+    let P : Variables → Type 0 = λ v. IsTrue (has_room v.room c.args.variable) in
+    subst P (sym c.index_mut.ensures.value)
+    (inner_room c.self.inside.first c.self.inside.inner.items c.args.self.now c.args.place c.args.variable c.index_mut.result.now c.self.view_is c.if-place-eq0.false c.requires).1
+
+pub returns-else-place-eq0-clause-scopes : goal.returns-else-place-eq0-clause-scopes
+returns-else-place-eq0-clause-scopes c =
+    inner_changed c.self.inside.first c.self.inside.inner.items c.args.self.now c.args.place c.args.variable c.args.value _ c.index_mut.result.now c.self.view_is c.if-place-eq0.false
+    (inner_room c.self.inside.first c.self.inside.inner.items c.args.self.now c.args.place c.args.variable c.self.inside.first c.self.view_is c.if-place-eq0.false c.requires).0
+    c.index_mut.ensures.value c.set-else-place-eq0.ensures.scope
+
+pub returns-else-place-eq0-clause-rooms : goal.returns-else-place-eq0-clause-rooms
+returns-else-place-eq0-clause-rooms c =
+    inner_same_rooms c.self.inside.first c.self.inside.inner.items c.args.self.now c.args.place _ c.index_mut.result.now c.self.view_is
+    (inner_room c.self.inside.first c.self.inside.inner.items c.args.self.now c.args.place c.args.variable c.self.inside.first c.self.view_is c.if-place-eq0.false c.requires).0
+    c.index_mut.ensures.value c.set-else-place-eq0.ensures.room

@@ -1,0 +1,152 @@
+//! The scopes.
+
+ghost use Rattle.std.specs.Prelude.{◌≡◌, ℕ, ◌<◌, ◌≤◌, [], ◌∷◌, ◌++◌, length, take, IsTrue, Some, OnOk, OnErr};
+ghost use Rattle.std.specs.Option.{option_copied};
+ghost use Rattle.std.specs.FinMap.{empty};
+ghost use Rattle.rl_store.specs.Scope.{value_at, changed_at, place_of};
+ghost use Rattle.rl_store.specs.Rooms.{HasRoom};
+
+use crate::slots::Slots;
+use rl_value::Value;
+use std::alloc::{AllocError, Global};
+use std::marker::Model;
+
+/// The scopes, of which there is always a first.
+#[derive(Drop)]
+pub(crate) struct Scopes {
+    alloc: Global,
+    first: Slots,
+    inner: Vec<Slots>,
+}
+
+impl Model for Scopes {
+    ghost use Rattle.rl_store.specs.Rooms.{Rooms, rooms_code};
+
+    ghost Value = { Rooms };
+
+    ghost coded = { rooms_code };
+
+    ghost use Rattle.std.specs.Prelude.{map, ◌∷◌};
+
+    ghost view = { λ s. record {
+      scopes = s.first.scope ∷ map (λ v. v.scope) s.inner.items;
+      rooms = s.first.room ∷ map (λ v. v.room) s.inner.items;
+    } };
+}
+
+impl Scopes {
+    /// One empty scope.
+    pub(crate) fn new(alloc: Global) -> Scopes
+        ensures { result.scopes ≡ empty ∷ [] }
+    {
+        Scopes {
+            alloc,
+            first: Slots::new(alloc),
+            inner: Vec::new(alloc),
+        }
+    }
+
+    /// How many scopes there are.
+    pub(crate) fn len(&self) -> usize
+        ensures value { result ≡ length self.now.scopes }
+        ensures some { 1 ≤ result }
+    {
+        self.inner.len() + 1
+    }
+
+    /// The value of the variable in the scope with this place, if it has one.
+    pub(crate) fn value(&self, place: usize, variable: usize) -> Option<&Value>
+        requires { place < length self.now.scopes }
+        ensures { option_copied result ≡ value_at self.now.scopes place variable }
+    {
+        if place == 0 {
+            self.first.value(variable)
+        } else {
+            self.inner[place - 1].value(variable)
+        }
+    }
+
+    /// The last note of the variable in the scope with this place, as it was set, or 0.
+    pub(crate) fn last_note(&self, place: usize, variable: usize) -> usize
+        requires { place < length self.now.scopes }
+    {
+        if place == 0 {
+            self.first.last_note(variable)
+        } else {
+            self.inner[place - 1].last_note(variable)
+        }
+    }
+
+    /// The place of the innermost scope that has the variable, or 0.
+    pub(crate) fn place_of(&self, variable: usize) -> usize
+        ensures value { result ≡ place_of self.now.scopes variable }
+        ensures within { result < length self.now.scopes }
+    {
+        let mut place = self.len() - 1;
+        while place > 0 && self.value(place, variable).is_none() {
+            place -= 1;
+        }
+        place
+    }
+
+    /// Makes room for a value of the variable in the scope with this place.
+    pub(crate) fn make_room(&mut self, place: usize, variable: usize) -> Result<(), AllocError>
+        requires { place < length self.old.scopes }
+        ensures scopes { self.new.scopes ≡ self.old.scopes }
+        ensures room { OnOk result (HasRoom self.new.rooms place variable) }
+        ensures stays { (p x : ℕ) → HasRoom self.old.rooms p x → HasRoom self.new.rooms p x }
+    {
+        if place == 0 {
+            self.first.make_room(variable)
+        } else {
+            self.inner[place - 1].make_room(variable)
+        }
+    }
+
+    /// Sets what the variable of the scope with this place has, and its last note.
+    pub(crate) fn set(
+        &mut self,
+        place: usize,
+        variable: usize,
+        value: Option<Value>,
+        last_note: usize,
+    )
+        requires { HasRoom self.old.rooms place variable }
+        ensures scopes { self.new.scopes ≡ changed_at self.old.scopes place variable value }
+        ensures rooms { self.new.rooms ≡ self.old.rooms }
+    {
+        if place == 0 {
+            self.first.set(variable, value, last_note)
+        } else {
+            self.inner[place - 1].set(variable, value, last_note)
+        }
+    }
+
+    /// Sets the last note of a variable that has room in the scope with this place.
+    pub(crate) fn set_last_note(&self, place: usize, variable: usize, last_note: usize) {
+        if place == 0 {
+            self.first.set_last_note(variable, last_note)
+        } else if place <= self.inner.len() {
+            self.inner[place - 1].set_last_note(variable, last_note)
+        }
+    }
+
+    /// Adds an empty innermost scope.
+    pub(crate) fn open(&mut self) -> Result<(), AllocError>
+        ensures ok { OnOk result (self.new.scopes ≡ self.old.scopes ++ empty ∷ []) }
+        ensures err { OnErr result (self.new ≡ self.old) }
+        ensures stays { (p x : ℕ) → HasRoom self.old.rooms p x → HasRoom self.new.rooms p x }
+    {
+        self.inner.push(Slots::new(self.alloc))?;
+        Ok(())
+    }
+
+    /// Keeps as many scopes.
+    pub(crate) fn truncate(&mut self, count: usize)
+        requires { 1 ≤ count }
+        ensures scopes { self.new.scopes ≡ take count self.old.scopes }
+        ensures rooms { self.new.rooms ≡ take count self.old.rooms }
+    {
+        self.inner.truncate(count - 1)
+    }
+}
