@@ -1,0 +1,7 @@
+//! Modules: what they see of one another.
+#![tactic(auto)]
+
+mod built_in;
+pub mod examples;
+
+pub use built_in::is_built_in;
