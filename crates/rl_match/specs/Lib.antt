@@ -1,0 +1,4 @@
+pub mod Below
+pub mod Bindings
+pub mod Tests
+pub mod Equations

@@ -1,0 +1,2 @@
+//! The bindings of patterns on values.
+#![tactic(auto)]

@@ -1,0 +1,6 @@
+pub mod Guards
+pub mod Units
+pub mod Growth
+pub mod More
+pub mod Computed
+pub mod After

@@ -1,0 +1,5 @@
+use Rattle.rl_rules.proofs.After.{finally-once}
+use Rattle.rl_rules.proofs.laws.finally_is_used_once.Goals as goal
+
+pub returns : goal.returns
+returns c p files e = finally-once files e p

@@ -1,0 +1,62 @@
+-- Expressions as parts of forms.
+use Rattle.std.specs.Prelude.{ℕ, zero, suc, ◌+◌, nat_lt, if◌then◌else◌, List, [], ◌∷◌, ◌++◌}
+use Rattle.rl_exception.specs.Answer.{throwing}
+use Rattle.rl_exception.specs.Exceptions.{stack_overflow}
+use Rattle.rl_syntax.specs.declared.expression.Exp.{Exp, out-Exp}
+use Rattle.rl_syntax.specs.declared.expression.Exp.TheOpen as e
+use Rattle.rl_syntax.specs.declared.expression.Suffix.{Suffix}
+use Rattle.rl_syntax.specs.declared.statement.Case.{Case}
+use Rattle.rl_syntax.specs.declared.statement.Handler.{Handler}
+use Rattle.rl_syntax.specs.declared.statement.Stat.{Stat}
+use Rattle.rl_value.specs.Plain.{Plain}
+use Rattle.rl_rules.specs.Form.{Form, expression, statement}
+use Rattle.rl_rules.specs.Rule.{Outcome, Rule, Give, Use, Take, value, throw, give_answer}
+use Rattle.rl_rules.specs.State.{State}
+
+-- the exception, where it fits
+abbrev pub raise : Plain → State → Rule
+raise exception s = give_answer (throwing exception) s
+
+-- the greatest depth of a rule
+abbrev pub greatest_depth : ℕ
+greatest_depth = 1000000
+
+-- what is deeper throws
+abbrev pub limited : ℕ → (State → Rule) → State → Rule
+limited d rule s = if nat_lt greatest_depth d then throw stack_overflow s else rule s
+
+-- a rule at depth d that is no form of its own: it takes its unit
+abbrev pub nested : ℕ → (State → Rule) → State → Rule
+nested d rule s = Take (limited d rule s)
+
+-- Parentheses count for nothing.
+
+-- Expressions nest no deeper than phrases do.
+abbrev pub greatest_height : ℕ
+greatest_height = 1000
+
+abbrev pub inside : Exp → (Exp → Exp) → e.Exp-F Exp Suffix Case Handler Stat → Exp
+inside x go (e.Parenthesized place y) = go y
+inside x go layer = x
+
+-- without so many parentheses around it
+abbrev pub unwrapped : ℕ → Exp → Exp
+unwrapped zero x = x
+unwrapped (suc n) x = inside x (unwrapped n) (out-Exp x)
+
+-- the expression in its parentheses
+unfoldable pub bare : Exp → Exp
+bare x = unwrapped greatest_height x
+
+-- an expression as a part of a form at depth d
+abbrev pub part : Exp → ℕ → State → (Plain → State → Rule) → Rule
+part x d s go = value (expression (bare x)) d s go
+
+-- parts from the left; vs are the values of those before
+abbrev pub parts : List Exp → ℕ → List Plain → (List Plain → State → Rule) → State → Rule
+parts [] d vs go s = go vs s
+parts (x ∷ xs) d vs go s = part x d s (λ v. parts xs d (vs ++ v ∷ []) go)
+
+-- a statement as a part of a form at depth d, with how it ends
+abbrev pub used : Stat → ℕ → State → Rule
+used x d s = Use (statement x) (d + 1) s Give

@@ -1,0 +1,148 @@
+-- The state of a program that runs, but for what it printed.
+use Rattle.std.specs.Prelude.{ℕ, nat_eq, if◌then◌else◌, Bool, true, false, not, List, [], ◌∷◌, ◌++◌, Option, Some, None, is_some}
+use Rattle.rl_value.specs.Plain.{Plain}
+
+-- finite maps from the numbers of variables to their values
+abbrev pub Variables : Type 0
+Variables = List (ℕ × Plain)
+
+abbrev pub value_of : ℕ → Variables → Option Plain
+value_of x [] = None
+value_of x ((y, v) ∷ vs) = if nat_eq x y then Some v else value_of x vs
+
+-- with the variable at a value: in its place, or as the last
+abbrev pub with_value : ℕ → Plain → Variables → Variables
+with_value x v [] = (x, v) ∷ []
+with_value x v ((y, u) ∷ vs) = if nat_eq x y then (x, v) ∷ vs else (y, u) ∷ with_value x v vs
+
+pub record State : Type 0 where
+  pub globals : Variables
+  -- the scopes of the call that runs, the innermost first
+  pub scopes : List Variables
+  -- the module that acts in the call that runs
+  pub acting : ℕ
+  -- the values that each loop under way has appended, the innermost loop first
+  pub appended : List (List Plain)
+  -- the values that each comprehension under way has collected, the innermost first
+  pub collected : List (List Plain)
+  -- the value of `it` of each reducer under way, the innermost first
+  pub its : List Plain
+
+-- Reading and setting variables.
+
+abbrev pub first_of : Option Plain → Option Plain → Option Plain
+first_of None other = other
+first_of (Some v) other = Some v
+
+abbrev pub value_in_scopes : ℕ → List Variables → Option Plain
+value_in_scopes x [] = None
+value_in_scopes x (scope ∷ scopes) = first_of (value_of x scope) (value_in_scopes x scopes)
+
+-- in the innermost scope that has it, or as a global
+abbrev pub read : ℕ → State → Option Plain
+read x s = first_of (value_in_scopes x s.scopes) (value_of x s.globals)
+
+-- all variables that are in reach, an inner one before an outer one of its number
+abbrev pub joined_scopes : List Variables → Variables
+joined_scopes [] = []
+joined_scopes (scope ∷ scopes) = scope ++ joined_scopes scopes
+
+abbrev pub in_reach : State → Variables
+in_reach s = joined_scopes s.scopes ++ s.globals
+
+-- sets it in the innermost scope
+abbrev pub declared_in : ℕ → Plain → List Variables → List Variables
+declared_in x v [] = ((x, v) ∷ []) ∷ []
+declared_in x v (scope ∷ scopes) = with_value x v scope ∷ scopes
+
+abbrev pub declare : ℕ → Plain → State → State
+declare x v s = record s { scopes = declared_in x v s.scopes }
+
+abbrev pub set_global : ℕ → Plain → State → State
+set_global x v s = record s { globals = with_value x v s.globals }
+
+-- sets it in the innermost scope that has it
+abbrev pub written_in : ℕ → Plain → List Variables → List Variables
+written_in x v [] = []
+written_in x v (scope ∷ scopes) = if is_some (value_of x scope) then with_value x v scope ∷ scopes else scope ∷ written_in x v scopes
+
+abbrev pub write_in_scopes : ℕ → Plain → State → State
+write_in_scopes x v s = record s { scopes = written_in x v s.scopes }
+
+-- a variable that has no value yet is a global that is set for the first time, or is declared here
+abbrev pub write : (is_global : Bool) → ℕ → Plain → State → State
+write true x v s = set_global x v s
+write false x v s = if is_some (value_in_scopes x s.scopes) then write_in_scopes x v s else declare x v s
+
+-- the variables of a binding, in its order
+abbrev pub declare_all : Variables → State → State
+declare_all [] s = s
+declare_all ((x, v) ∷ vs) s = declare_all vs (declare x v s)
+
+-- Scopes.
+
+abbrev pub open_scope : State → State
+open_scope s = record s { scopes = [] ∷ s.scopes }
+
+abbrev pub outer_of : List Variables → List Variables
+outer_of [] = []
+outer_of (scope ∷ scopes) = scopes
+
+abbrev pub close_scope : State → State
+close_scope s = record s { scopes = outer_of s.scopes }
+
+-- the state of a call that begins, with one scope of its own and the module that acts in it
+abbrev pub enter_call : ℕ → State → State
+enter_call acting s = record s { scopes = [] ∷ []; acting = acting }
+
+-- after a call: the caller's scopes and acting module, and all else as the call left it
+abbrev pub leave_call : State → State → State
+leave_call caller s = record s { scopes = caller.scopes; acting = caller.acting }
+
+-- Piles and `it`. What is taken from none is empty.
+
+abbrev pub below_top : {A : Type 0} → List A → List A
+below_top [] = []
+below_top (x ∷ xs) = xs
+
+abbrev pub top_list : List (List Plain) → List Plain
+top_list [] = []
+top_list (vs ∷ piles) = vs
+
+abbrev pub add_on_top : List Plain → List (List Plain) → List (List Plain)
+add_on_top vs [] = []
+add_on_top vs (us ∷ piles) = (us ++ vs) ∷ piles
+
+abbrev pub begin_loop : State → State
+begin_loop s = record s { appended = [] ∷ s.appended }
+
+abbrev pub append : Plain → State → State
+append v s = record s { appended = add_on_top (v ∷ []) s.appended }
+
+abbrev pub end_loop : State → State
+end_loop s = record s { appended = below_top s.appended }
+
+abbrev pub begin_comprehension : State → State
+begin_comprehension s = record s { collected = [] ∷ s.collected }
+
+abbrev pub collect : List Plain → State → State
+collect vs s = record s { collected = add_on_top vs s.collected }
+
+abbrev pub end_comprehension : State → State
+end_comprehension s = record s { collected = below_top s.collected }
+
+abbrev pub begin_reducer : Plain → State → State
+begin_reducer v s = record s { its = v ∷ s.its }
+
+abbrev pub top_it : List Plain → Option Plain
+top_it [] = None
+top_it (v ∷ vs) = Some v
+
+abbrev pub it_of : State → Option Plain
+it_of s = top_it s.its
+
+abbrev pub set_it : Plain → State → State
+set_it v s = record s { its = v ∷ below_top s.its }
+
+abbrev pub end_reducer : State → State
+end_reducer s = record s { its = below_top s.its }

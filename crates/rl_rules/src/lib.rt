@@ -1,0 +1,5 @@
+//! The rules of the language.
+#![tactic(auto)]
+
+pub mod examples;
+pub mod laws;

@@ -1,0 +1,2 @@
+//! Walks over the nodes of a value.
+#![tactic(auto)]
