@@ -9,3 +9,4 @@ pub mod Set
 pub mod Terminal
 pub mod Token
 pub mod Word
+pub mod Told
