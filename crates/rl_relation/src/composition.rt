@@ -72,7 +72,12 @@ fn join(
 }
 
 /// Adds the pairs of one value with each of these.
-fn add_pairs(alloc: Global, pairs: &mut Vec<Value>, x: &Value, ys: &[Value]) -> Result<(), BuildEnd>
+pub(crate) fn add_pairs(
+    alloc: Global,
+    pairs: &mut Vec<Value>,
+    x: &Value,
+    ys: &[Value],
+) -> Result<(), BuildEnd>
     ensures ok { OnOk result (pairs.new.items ≡ pairs.old.items ++ map (pair_of x.now) ys.now) }
     ensures large { result ≡ Err TooLarge → list_all fits (map (pair_of x.now) ys.now) ≡ false }
 {

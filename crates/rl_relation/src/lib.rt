@@ -1,11 +1,13 @@
 //! Relations: sets of pairs.
 #![tactic(auto)]
 
+mod closures;
 mod composition;
 mod pairs;
 mod projections;
 mod restrictions;
 
+pub use closures::{closure, reflexive_closure};
 pub use composition::compose;
 pub use projections::{carrier, domain, invert, range};
 pub use restrictions::{domain_excluded, domain_restricted, range_excluded, range_restricted};

@@ -20,7 +20,7 @@ pub fn domain(alloc: Global, a: &Value) -> Result<Value, OpEnd>
     fitted_set(alloc, found)
 }
 
-fn firsts(alloc: Global, pairs: &[Value]) -> Result<Vec<Value>, AllocError>
+pub(crate) fn firsts(alloc: Global, pairs: &[Value]) -> Result<Vec<Value>, AllocError>
     ensures { IfOk result (λ found. found.items ≡ map first_of pairs.now) }
 {
     let mut found = Vec::with_capacity(alloc, pairs.len())?;
@@ -62,7 +62,7 @@ pub fn carrier(alloc: Global, a: &Value) -> Result<Value, OpEnd>
     fitted_set(alloc, found)
 }
 
-fn parts(alloc: Global, pairs: &[Value]) -> Result<Vec<Value>, AllocError>
+pub(crate) fn parts(alloc: Global, pairs: &[Value]) -> Result<Vec<Value>, AllocError>
     ensures { IfOk result (λ found. found.items ≡ parts_in pairs.now) }
 {
     let mut found = Vec::new(alloc);
