@@ -1,10 +1,8 @@
 -- The pairs of two rising lists: they rise, and how large they are.
-use Rattle.std.proofs.Common.{◌≡◌, ℕ, ◌+◌, ◌*◌, ◌≤◌, ◌^◌, List, [], ◌∷◌, ◌++◌, ◌⊎◌, inl, inr, length, map, refl, ap, sym, subst, arith}
-use Rattle.std.specs.declared.cmp.Ordering.{Ordering}
-use Rattle.std.specs.declared.cmp.Ordering.TheVariants.{Less, Equal, Greater}
-use Rattle.std.specs.Ordering.{ordering_then}
+use Rattle.std.proofs.Common.{◌≡◌, ◌+◌, ◌*◌, ◌≤◌, ◌^◌, List, [], ◌∷◌, ◌++◌, length, map, refl, ap, arith}
+use Rattle.std.specs.declared.cmp.Ordering.TheVariants.{Less}
 use Rattle.std.proofs.lemmas.Cmp.{tied_itself}
-use Rattle.rl_value.specs.Plain.{Plain, set, plains_of, plain_size, plains_size, items_of-plains_of, Fits}
+use Rattle.rl_value.specs.Plain.{Plain, set, plains_of, plains_size, items_of-plains_of, Fits}
 use Rattle.rl_value.specs.Order.{plain_cmp}
 use Rattle.rl_value.specs.Rising.{AllAbove, Rises, rising}
 use Rattle.rl_value.specs.Opened.{IsInOrder}

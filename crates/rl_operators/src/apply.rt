@@ -9,6 +9,7 @@ use crate::operator::{BinOp, UnOp};
 use crate::products::multiply;
 use crate::sums::{add, intersect, subtract};
 use rl_exception::OpEnd;
+use rl_relation::{closure, compose, reflexive_closure};
 use rl_value::Value;
 use std::alloc::Global;
 
@@ -25,6 +26,7 @@ pub fn binary(alloc: Global, op: BinOp, a: &Value, b: &Value) -> Result<Value, O
         BinOp::Divide => divide(alloc, a, b),
         BinOp::Remainder => take_remainder(alloc, a, b),
         BinOp::Intersect => intersect(alloc, a, b),
+        BinOp::Compose => compose(alloc, a, b),
         BinOp::Equal => Ok(equal(a, b)),
         BinOp::NotEqual => Ok(not_equal(a, b)),
         BinOp::Less => less(alloc, a, b),
@@ -47,5 +49,7 @@ pub fn unary(alloc: Global, op: UnOp, a: &Value) -> Result<Value, OpEnd>
     match op {
         UnOp::Negate => negate(alloc, a),
         UnOp::Not => negation(alloc, a),
+        UnOp::TransitiveClosure => closure(alloc, a),
+        UnOp::ReflexiveClosure => reflexive_closure(alloc, a),
     }
 }

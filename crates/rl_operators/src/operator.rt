@@ -13,6 +13,8 @@ pub enum BinOp {
     Remainder,
     /// `&`
     Intersect,
+    /// `o`
+    Compose,
     /// `==`
     Equal,
     /// `!=`
@@ -46,4 +48,8 @@ pub enum UnOp {
     Negate,
     /// `!`
     Not,
+    /// `+` behind a relation.
+    TransitiveClosure,
+    /// `*` behind a relation.
+    ReflexiveClosure,
 }

@@ -1,4 +1,4 @@
-use Rattle.std.proofs.Common.{◌≤◌, ◌^◌, ◌*◌, length, Err, ap}
+use Rattle.std.proofs.Common.{Err, ap}
 use Rattle.rl_exception.proofs.FittingLemmas.{ends_large}
 use Rattle.rl_operators.specs.Sets.{set_of, all_pairs}
 use Rattle.rl_operators.proofs.PairLemmas.{many_pairs}
