@@ -1,3 +1,5 @@
+pub mod Fields
 pub mod Having
 pub mod Joins
+pub mod Lookups
 pub mod Order

@@ -1,3 +1,5 @@
+pub mod Codes
 pub mod Declarations
 pub mod PlainType
 pub mod Types
+pub mod View

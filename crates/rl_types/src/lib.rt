@@ -1,6 +1,14 @@
 //! Types: which values have them, which is below which, and the declarations that they rest on.
 #![tactic(auto)]
 
+pub mod constructor;
+pub mod decls;
 pub mod laws;
+pub mod membership;
+pub mod subtyping;
 
+pub use constructor::Constructor;
+pub use decls::Decls;
 pub use laws::{join_is_least, subtype_is_an_order, values_have_types_above};
+pub use membership::has;
+pub use subtyping::subtype;
