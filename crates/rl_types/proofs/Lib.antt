@@ -2,4 +2,5 @@ pub mod Fields
 pub mod Having
 pub mod Joins
 pub mod Lookups
+pub mod Members
 pub mod Order

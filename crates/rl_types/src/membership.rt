@@ -4,7 +4,7 @@ ghost use Rattle.std.specs.Prelude.{◌≡◌, map};
 ghost use Rattle.rl_value.specs.Plain.{plains_of, pairs_of};
 ghost use Rattle.rl_value.specs.View.{pair_of};
 ghost use Rattle.rl_types.specs.Declarations.{Declarations, constructor as constructor_in};
-ghost use Rattle.rl_types.specs.PlainType.{str, list, set, mapping, tuple, named, plain_type, field_type, types_of};
+ghost use Rattle.rl_types.specs.PlainType.{str, list, set, mapping, tuple, named, value as value_type, plain_type, field_type, types_of};
 ghost use Rattle.rl_types.specs.Types.{has, all_have, each_has, pairs_have, is_of};
 
 use crate::decls::Decls;
@@ -40,7 +40,7 @@ fn admits(ty: &Ty, value: &Value, decls: &Decls) -> bool
             key,
             value: content,
             ..
-        } => map_admits(key.get(), content.get(), value, decls),
+        } => map_admits_keys(key.get(), value, decls) && map_admits_contents(content.get(), value, decls),
         Ty::Tuple { fields, .. } => tuple_admits(fields.as_slice(), value, decls),
         Ty::Named { name, .. } => name_admits(name.as_str(), value, decls),
     }
@@ -102,14 +102,26 @@ fn relation_admits(fields: &[Field], value: &Value, decls: &Decls) -> bool
     }
 }
 
-// Whether the value is a map from the key to the content.
+// Whether the value is a map from the key.
 #[cycle(admits)]
 #[tactic(auto, unfolding(crate::specs::Types::has))]
-fn map_admits(key: &Ty, content: &Ty, value: &Value, decls: &Decls) -> bool
-    ensures { result ≡ has decls.now value.now (mapping (plain_type key.now) (plain_type content.now)) }
+fn map_admits_keys(key: &Ty, value: &Value, decls: &Decls) -> bool
+    ensures { result ≡ has decls.now value.now (mapping (plain_type key.now) value_type) }
 {
     match value.open() {
-        Opened::Map(entries) => entries_admitted(key, content, entries, decls),
+        Opened::Map(entries) => keys_admitted(key, entries, decls),
+        _ => false,
+    }
+}
+
+// Whether the value is a map to the content.
+#[cycle(admits)]
+#[tactic(auto, unfolding(crate::specs::Types::has))]
+fn map_admits_contents(content: &Ty, value: &Value, decls: &Decls) -> bool
+    ensures { result ≡ has decls.now value.now (mapping value_type (plain_type content.now)) }
+{
+    match value.open() {
+        Opened::Map(entries) => contents_admitted(content, entries, decls),
         _ => false,
     }
 }
@@ -127,7 +139,7 @@ fn tuple_admits(fields: &[Field], value: &Value, decls: &Decls) -> bool
 }
 
 // Whether the value is of the data type, or a tree of the sort.
-#[tactic(auto, unfolding(crate::specs::Types::has))]
+#[tactic(auto, using(crate::proofs::Members::value_count_plains_of), unfolding(crate::specs::Types::has))]
 fn name_admits(name: &str, value: &Value, decls: &Decls) -> bool
     ensures { result ≡ has decls.now value.now (named name.now) }
 {
@@ -176,16 +188,27 @@ fn all_tuples_admitted(fields: &[Field], values: &[Value], decls: &Decls) -> boo
     true
 }
 
-// Whether each key and each value beside it have their types.
+// Whether each key has the type.
 #[cycle(admits)]
 #[tactic(auto, unfolding(crate::specs::Types::has))]
-fn entries_admitted(key: &Ty, content: &Ty, entries: &[Entry], decls: &Decls) -> bool
-    ensures { result ≡ pairs_have decls.now (pairs_of (map pair_of entries.now)) (plain_type key.now) (plain_type content.now) }
+fn keys_admitted(key: &Ty, entries: &[Entry], decls: &Decls) -> bool
+    ensures { result ≡ pairs_have decls.now (pairs_of (map pair_of entries.now)) (plain_type key.now) value_type }
 {
     for entry in entries {
         if !admits(key, &entry.key, decls) {
             return false;
         }
+    }
+    true
+}
+
+// Whether what stands at each key has the type.
+#[cycle(admits)]
+#[tactic(auto, unfolding(crate::specs::Types::has))]
+fn contents_admitted(content: &Ty, entries: &[Entry], decls: &Decls) -> bool
+    ensures { result ≡ pairs_have decls.now (pairs_of (map pair_of entries.now)) value_type (plain_type content.now) }
+{
+    for entry in entries {
         if !admits(content, &entry.value, decls) {
             return false;
         }
