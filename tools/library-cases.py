@@ -7,6 +7,7 @@ The answers are worked out here by a model of the library of its own. Run it at 
 """
 
 import functools
+import sys
 from pathlib import Path
 
 LEAST, GREATEST = -2 ** 127, 2 ** 127 - 1
@@ -193,7 +194,9 @@ def height(v):
 def text_of(v):
     if isinstance(v, Leaf):
         return v.text
-    return "".join(text_of(part) for part in v.items)
+    if not hasattr(v, "text"):
+        v.text = "".join(text_of(part) for part in v.items)
+    return v.text
 
 
 def behind_backslash(text, characters):
@@ -338,6 +341,14 @@ def pieces(whole, separator):
         begin = place + len(separator)
 
 
+def joined(between, texts):
+    """The texts with another between two, unless no value can hold it."""
+    length = sum(len(text.encode()) for text in texts) + len(between.encode()) * max(len(texts) - 1, 0)
+    if length >= MAX_SIZE:
+        raise Thrown("TooLarge")
+    return between.join(texts)
+
+
 def part(whole, begin, end):
     if not 0 <= begin <= len(whole):
         raise Thrown("IndexOutOfBounds", begin)
@@ -394,7 +405,7 @@ LIBRARY = {
     "max": ([listed], lambda v: first_of(List(*sorted(v.items, key=order)) if v.items else v, -1)),
     "min": ([listed], lambda v: first_of(List(*sorted(v.items, key=order)) if v.items else v, 0)),
     "sum": ([listed], added),
-    "intercalate": ([is_text, is_list], lambda between, v: between.join(map(shown, v.items))),
+    "intercalate": ([is_text, is_list], lambda between, v: joined(between, list(map(shown, v.items)))),
     "domain": ([either(is_map, is_relation)], lambda v: side(v, 0)),
     "range": ([either(is_map, is_relation)], lambda v: side(v, 1)),
     "delete": ([is_map, is_any], lambda v, key: Map(*[pair for pair in v.pairs if not same(pair[0], key)])),
@@ -408,7 +419,7 @@ LIBRARY = {
     "startsWith": ([is_text, is_text], lambda whole, front: whole.startswith(front)),
     "endsWith": ([is_text, is_text], lambda whole, end: whole.endswith(end)),
     "split": ([is_text, is_text], lambda separator, whole: List(*pieces(whole, separator))),
-    "replaceAll": ([is_text, is_text, is_text], lambda whole, part, new: new.join(pieces(whole, part))),
+    "replaceAll": ([is_text, is_text, is_text], lambda whole, part, new: joined(new, pieces(whole, part))),
     "trim": ([is_text], lambda v: v.strip(" \t\r\n")),
     "substring": ([is_text, is_int, is_int], part),
     "toInt": ([is_text], number),
@@ -481,7 +492,13 @@ every_kind = [
     List(1, 0), Tuple(1, 0), Node("f", 0, 5), Map((1, 1), (2, 0)), Set(1, 2), "é", 2, Tree("L", "B", Leaf("1")),
 ]
 others = [True, 1, "a", Place("p"), Tuple(1), List(), Set(), Map(), Node("f"), sort_one, Leaf("a")]
-full = 2 ** 24 - 1  # the bytes of the longest text
+full = Times("a" * 255, 65793)  # as long as a text can be
+
+
+def nested(depth, make, v):
+    for _ in range(depth):
+        v = make(v)
+    return v
 
 
 def wrong(name, places, *arguments):
@@ -508,6 +525,7 @@ def calls():
             yield name, v
     yield "toList", names
     yield "toList", Map()
+    yield "toList", Map((nested(1998, List, 0), 1))
     yield "toList", Map((Copies(2 ** 23 - 1, 0), Copies(2 ** 23 - 2, 1)))
     yield "dup", List(2, "2", 2, Set(1, 2), Set(2, 1), Tuple(), Tuple())
     for n in [0, 2, 4, 5, -1, LEAST, GREATEST]:
@@ -529,8 +547,8 @@ def calls():
         yield "intercalate", ", é", v
         yield "intercalate", "", v
     yield from wrong("intercalate", [0, 1], ",", numbers)
-    yield "intercalate", Times("a" * 255, 65793), List("")
-    yield "intercalate", Times("a" * 255, 65793), List("", "", "")
+    yield "intercalate", full, List("")
+    yield "intercalate", full, List("", "", "")
     yield "intercalate", Times("a" * 255, 32896), List("", "", "b" * 256)
     for name in ["domain", "range", "carrier", "invert"]:
         for v in [names, Map(), pairs, Set(), Set(Tuple(1, 2, 3)), Set(Tuple(1, 2), 3), List(Tuple(1, 2)), Set(Tuple(1)), Set(Tuple(pairs, 2))]:
@@ -560,8 +578,8 @@ def calls():
     yield "split", ",", Times("a" * 254 + ",", 65793)
     yield from wrong("replaceAll", [0, 1, 2], "a", "", "b")
     yield "replaceAll", Times("a" * 16, 2 ** 16), "a", "b" * 16
-    yield "replaceAll", Times("a" * 255, 65793), "a", ""
-    yield "replaceAll", Times("a" * 255, 65793), "a" * 255, "b" * 256
+    yield "replaceAll", full, "a", ""
+    yield "replaceAll", full, "a" * 255, "b" * 256
     for v in [" \t\r\na b\n\r\t ", " \n", "", "a", "\u00a0a\u2003", "\x0ba\x0c", " é "]:
         yield "trim", v
     yield from wrong("trim", [0], None)
@@ -571,11 +589,14 @@ def calls():
     yield from wrong("substring", [0, 1, 2], "a", 5, 0)
     for v in ["0", "-0", "007", "-042", "12", "+1", "", "-", "--1", " 1", "1 ", "1.5", "٣", "0x1", str(LEAST), str(GREATEST), str(LEAST - 1), str(GREATEST + 1), "-" + "0" * 60 + "1"]:
         yield "toInt", v
-    yield "toInt", Times("a" * 255, 65793)
+    yield "toInt", full
     yield from wrong("toInt", [0], None)
     for sort in ["E", "N", "W", "Id", "", "X"]:
         for v in [whole, more, empty_tree, ticks, blank, Tree("O", ""), Tree("K", "N", sort_one, Tree("S", "N"), Tree("S", "N", Tree("L", "N")), sort_one)]:
             yield "spans", v, sort
+    yield "spans", nested(1998, lambda v: Tree("S", "E", v), Leaf("")), "E"
+    yield "spans", nested(1998, lambda v: Tree("S", "E", v), Leaf("")), "N"
+    yield "spans", nested(1700, lambda v: Tree("S", "E", v), Leaf("a" * 10000)), "E"
     yield from wrong("spans", [0, 1], whole, "E")
     for v in [whole, more, empty_tree, ticks, blank, sort_one, Tree("S", "T", Leaf('"<a>\n`'), Leaf(""))]:
         yield "unparse", v
@@ -592,6 +613,7 @@ def expected(call):
 
 
 def main():
+    sys.setrecursionlimit(20000)
     folder = Path("crates/library_cases")
     every = list(calls())
     lines = ["\t".join([name] + [word for argument in arguments for word in words(argument)]) for name, *arguments in every]
