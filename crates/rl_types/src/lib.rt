@@ -3,12 +3,14 @@
 
 pub mod constructor;
 pub mod decls;
+pub mod joining;
 pub mod laws;
 pub mod membership;
 pub mod subtyping;
 
 pub use constructor::Constructor;
 pub use decls::Decls;
+pub use joining::join;
 pub use laws::{join_is_least, subtype_is_an_order, values_have_types_above};
 pub use membership::has;
 pub use subtyping::subtype;
