@@ -4,4 +4,5 @@ pub mod Joins
 pub mod Leaves
 pub mod Lookups
 pub mod Members
+pub mod Names
 pub mod Order

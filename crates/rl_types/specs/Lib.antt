@@ -1,5 +1,7 @@
 pub mod Codes
 pub mod Declarations
+pub mod Exceptions
 pub mod PlainType
+pub mod Program
 pub mod Types
 pub mod View

@@ -4,11 +4,14 @@ ghost use Rattle.std.specs.Prelude.{◌≡◌, ◌==◌, IfOk, map, filter, find
 ghost use Rattle.std.specs.Option.{option_copied, option_map};
 ghost use Rattle.std.specs.Str.{bytes_eq};
 ghost use Rattle.rl_types.specs.Declarations.{is_data, is_sort, constructor};
-ghost use Rattle.rl_types.specs.View.{constructor_of};
+ghost use Rattle.rl_types.specs.Program.{declarations_of};
+ghost use Rattle.rl_types.specs.View.{constructor_of, declarations_in, IsIndexed};
 
 use crate::constructor::Constructor;
+use crate::gathering::{by_name, constructors, data_types, set_of, sorts};
 use rl_grammar::Name;
-use std::alloc::AllocError;
+use rl_syntax::Module;
+use std::alloc::{AllocError, Global};
 use std::collections::{BTreeMap, BTreeSet};
 use std::marker::Model;
 use std::rc::Rc;
@@ -47,6 +50,15 @@ impl Model for Decls {
 }
 
 impl Decls {
+    /// The exceptions that are there without a declaration, and what the modules declare.
+    pub fn new(alloc: Global, modules: &[Module]) -> Result<Decls, AllocError>
+        ensures { IfOk result (λ d. d ≡ declarations_of modules.now) }
+    {
+        Ok(Decls {
+            table: Rc::new(alloc, table_of(alloc, modules)?)?,
+        })
+    }
+
     /// The same declarations, shared.
     pub fn share(&self) -> Result<Decls, AllocError>
         ensures { IfOk result (λ d. d ≡ self.now) }
@@ -114,4 +126,24 @@ fn with_count(constructors: &[Constructor], count: usize) -> Option<&Constructor
     ensures { option_copied result ≡ find (λ c. length c.fields == count) constructors.now }
 {
     constructors.iter().find(|c| c.fields.len() == count)
+}
+
+fn table_of(alloc: Global, modules: &[Module]) -> Result<Table, AllocError>
+    ensures value { IfOk result (λ t. declarations_in t ≡ declarations_of modules.now) }
+    ensures indexed { IfOk result IsIndexed }
+{
+    let data_types = data_types(alloc, modules)?;
+    let constructors = constructors(alloc, modules)?;
+    let sorts = sorts(alloc, modules)?;
+    let data_type_names = set_of(alloc, &data_types)?;
+    let sort_names = set_of(alloc, &sorts)?;
+    let constructors_by_name = by_name(alloc, &constructors)?;
+    Ok(Table {
+        data_types,
+        constructors,
+        sorts,
+        data_type_names,
+        sort_names,
+        constructors_by_name,
+    })
 }

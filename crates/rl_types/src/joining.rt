@@ -33,11 +33,21 @@ fn least_above(b: &Ty, a: &Ty, decls: &Decls, alloc: Global) -> Result<Ty, Alloc
         Ty::Str { place } => Ok(above_str(b, *place)),
         Ty::Loc { place } => Ok(above_loc(b, *place)),
         Ty::List { place, element } => above_list(b, *place, element, decls, alloc),
-        Ty::ListRelation { place, fields } =>
-            above_list_relation(b, *place, fields.as_slice(), decls, alloc),
+        Ty::ListRelation { place, fields } => above_list_relation(
+            b,
+            *place,
+            fields.as_slice(),
+            decls,
+            alloc,
+        ),
         Ty::Set { place, element } => above_set(b, *place, element, decls, alloc),
-        Ty::Relation { place, fields } =>
-            above_relation(b, *place, fields.as_slice(), decls, alloc),
+        Ty::Relation { place, fields } => above_relation(
+            b,
+            *place,
+            fields.as_slice(),
+            decls,
+            alloc,
+        ),
         Ty::Map { place, key, value } => above_map(b, *place, key, value, decls, alloc),
         Ty::Tuple { place, fields } => above_tuple(b, *place, fields.as_slice(), decls, alloc),
         Ty::Named { place, name } => above_name(b, *place, name, decls, alloc),
@@ -146,7 +156,10 @@ fn above_list(
         }),
         Ty::List { element: other, .. } => Ok(Ty::List {
             place,
-            element: Shared::new(alloc, least_above(other.get(), element.get(), decls, alloc)?)?,
+            element: Shared::new(
+                alloc,
+                least_above(other.get(), element.get(), decls, alloc)?,
+            )?,
         }),
         Ty::ListRelation { fields, .. } => Ok(Ty::List {
             place,
@@ -213,7 +226,10 @@ fn above_set(
         }),
         Ty::Set { element: other, .. } => Ok(Ty::Set {
             place,
-            element: Shared::new(alloc, least_above(other.get(), element.get(), decls, alloc)?)?,
+            element: Shared::new(
+                alloc,
+                least_above(other.get(), element.get(), decls, alloc)?,
+            )?,
         }),
         Ty::Relation { fields, .. } => Ok(Ty::Set {
             place,
@@ -286,8 +302,14 @@ fn above_map(
             ..
         } => Ok(Ty::Map {
             place,
-            key: Shared::new(alloc, least_above(other_key.get(), key.get(), decls, alloc)?)?,
-            value: Shared::new(alloc, least_above(other_value.get(), value.get(), decls, alloc)?)?,
+            key: Shared::new(
+                alloc,
+                least_above(other_key.get(), key.get(), decls, alloc)?,
+            )?,
+            value: Shared::new(
+                alloc,
+                least_above(other_value.get(), value.get(), decls, alloc)?,
+            )?,
         }),
         _ => Ok(Ty::Value { place }),
     }
@@ -310,8 +332,13 @@ fn above_tuple(
             place,
             fields: share_fields(fields, alloc)?,
         }),
-        Ty::Tuple { fields: others, .. } =>
-            above_tuples(others.as_slice(), place, fields, decls, alloc),
+        Ty::Tuple { fields: others, .. } => above_tuples(
+            others.as_slice(),
+            place,
+            fields,
+            decls,
+            alloc,
+        ),
         _ => Ok(Ty::Value { place }),
     }
 }
@@ -332,8 +359,13 @@ fn above_tuples_and(
             place: *place,
             fields: share_fields(fields, alloc)?,
         }),
-        Ty::Tuple { place, fields: own } =>
-            above_tuples(fields, *place, own.as_slice(), decls, alloc),
+        Ty::Tuple { place, fields: own } => above_tuples(
+            fields,
+            *place,
+            own.as_slice(),
+            decls,
+            alloc,
+        ),
         _ => Ok(Ty::Value { place: a.place() }),
     }
 }

@@ -3,6 +3,8 @@
 
 pub mod constructor;
 pub mod decls;
+mod exceptions;
+mod gathering;
 pub mod joining;
 pub mod laws;
 pub mod membership;

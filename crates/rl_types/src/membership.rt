@@ -40,7 +40,8 @@ fn admits(ty: &Ty, value: &Value, decls: &Decls) -> bool
             key,
             value: content,
             ..
-        } => map_admits_keys(key.get(), value, decls) && map_admits_contents(content.get(), value, decls),
+        } => map_admits_keys(key.get(), value, decls)
+            && map_admits_contents(content.get(), value, decls),
         Ty::Tuple { fields, .. } => tuple_admits(fields.as_slice(), value, decls),
         Ty::Named { name, .. } => name_admits(name.as_str(), value, decls),
     }
