@@ -11,6 +11,7 @@ use Rattle.rl_words.specs.declared.name.Stage.TheVariants.{Begin, Inside, Colon}
 
 -- ---- Options and plain words
 
+-- `--root` and `--steps`
 pub data Flag : Type 0 where
   Root : Flag
   Steps : Flag
@@ -24,7 +25,7 @@ pub record Given : Type 0 where
 abbrev pub nothing : Given
 nothing = record { roots = []; steps = []; words = [] }
 
--- what stands before the words of `given`
+-- with a value, or a plain word, before the others
 abbrev pub with_value : Flag → List ℕ → Given → Given
 with_value Root value given = record given { roots = value ∷ given.roots }
 with_value Steps value given = record given { steps = value ∷ given.steps }
@@ -65,7 +66,7 @@ part_of word = if bytes_eq word (codes "--") then ends
     else if bytes_eq word (codes "--steps") then waits Steps
     else part_by_value (behind (codes "--root=") word) (behind (codes "--steps=") word) word
 
--- a word, the words after it, and what these give where an option waits or none does
+-- what a word gives with the words after it, of which `rest` says what they give after an option that waits or after none
 abbrev pub given_by : Part → List ℕ → List (List ℕ) → (Option Flag → Option Given) → Option Given
 given_by ends word words rest = Some (record nothing { words = words })
 given_by (waits flag) word words rest = rest (Some flag)
@@ -83,7 +84,7 @@ abbrev pub given_at_end : Option Flag → Option Given
 given_at_end None = Some nothing
 given_at_end (Some flag) = None
 
--- what the words give, after an option that waits for its value or after none; None is a fault
+-- what the words give, after an option that waits for its value or after none; None is a fault of use
 abbrev pub given_after : Option Flag → List (List ℕ) → Option Given
 given_after waiting [] = given_at_end waiting
 given_after waiting (word ∷ words) = given_with waiting word words (λ next. given_after next words)

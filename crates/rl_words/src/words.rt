@@ -27,6 +27,7 @@ pub struct Asked<'a> {
     pub units: u64,
 }
 
+/// The command line: two options and two plain words, with no help flag.
 fn command<'a>(alloc: Global) -> Result<Command<'a>, AllocError>
     ensures { IfOk result (λ command. app_of command ≡ app) }
 {
@@ -99,6 +100,7 @@ fn is_left_out_or_value(given: Option<&str>) -> bool
     }
 }
 
+/// What is asked for by the values of the options and by the plain words.
 fn asked_by<'a>(
     root: Option<&'a str>,
     steps: Option<&'a str>,
@@ -111,16 +113,14 @@ fn asked_by<'a>(
     if !is_left_out_or_value(root) || !is_left_out_or_value(steps) {
         return None;
     }
-    let units = units_of(steps);
-    let root = root_of(root);
     let job = job?;
     let name = name?;
-    let units = units?;
-    if job == "run" && is_module_name(name.as_bytes()) {
-        Some(Asked { root, name, units })
-    } else {
-        None
+    if job != "run" || !is_module_name(name.as_bytes()) {
+        return None;
     }
+    let units = units_of(steps)?;
+    let root = root_of(root);
+    Some(Asked { root, name, units })
 }
 
 fn asked_in<'a>(matches: &ArgMatches<'a>) -> Option<Asked<'a>>
@@ -144,9 +144,7 @@ fn asked_in<'a>(matches: &ArgMatches<'a>) -> Option<Asked<'a>>
 /// - The plain words are `run` and MODULE, one or more names joined by `::`, where a name is a
 ///   letter or `_` followed by letters, digits and `_` of ASCII.
 ///
-/// # Errors
-///
-/// Memory ran out.
+/// Err is want of memory.
 pub fn asked_of<'a>(alloc: Global, words: &'a [String]) -> Result<Option<Asked<'a>>, AllocError>
     ensures { IfOk result (λ asked. option_map seen_asked asked ≡ asked_of (map string_bytes words.entry.now)) }
 {
