@@ -12,8 +12,8 @@ use Rattle.rl_syntax.specs.declared.ty.Ty.{Ty}
 use Rattle.rl_syntax.specs.declared.pattern.Pattern.{Pattern}
 use Rattle.rl_syntax.specs.declared.pattern.Pattern.TheOpen as p
 use Rattle.rl_syntax.specs.declared.pattern.PatternElement.{PatternElement}
-use Rattle.rl_syntax.specs.declared.pattern.Pattern.TheFolds.{fold-Pattern, fold-PatternElement}
 use Rattle.rl_match.specs.Below.{below}
+use Rattle.rl_match.specs.Folds.{fold_within, of_element, levels}
 
 -- the variables that were bound, by their numbers, in the order in which they were
 abbrev pub Binding : Type 0
@@ -172,11 +172,11 @@ on_element c (p.Single m) = one m
 
 -- the bindings of a pattern on a value, each of which goes on from b
 unfoldable pub bindings : Context → Pattern → Matching
-bindings c = fold-Pattern Matching Element (on_form c) (on_element c)
+bindings c = fold_within levels (on_form c) (on_element c)
 
 -- what an element of a list or set pattern is
 unfoldable pub element : Context → PatternElement → Element
-element c = fold-PatternElement Matching Element (on_form c) (on_element c)
+element c = of_element (on_element c) (bindings c)
 
 -- those of several patterns on as many values
 abbrev pub joined_bindings : Context → List Pattern → List Plain → Binding → List Binding

@@ -1,4 +1,5 @@
 pub mod Below
+pub mod Folds
 pub mod Bindings
 pub mod Tests
-pub mod Equations
+pub mod Laws

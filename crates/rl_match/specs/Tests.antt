@@ -7,7 +7,7 @@ use Rattle.rl_syntax.specs.declared.identifier.PatternVariable.{PatternVariable}
 use Rattle.rl_syntax.specs.declared.pattern.Pattern.{Pattern}
 use Rattle.rl_syntax.specs.declared.pattern.Pattern.TheOpen as p
 use Rattle.rl_syntax.specs.declared.pattern.PatternElement.{PatternElement}
-use Rattle.rl_syntax.specs.declared.pattern.Pattern.TheFolds.{fold-Pattern, fold-PatternElement}
+use Rattle.rl_match.specs.Folds.{fold_within, of_element, levels}
 
 abbrev pub Variables : Type 0
 Variables = List PatternVariable
@@ -48,10 +48,10 @@ in_element (p.Single inner) = inner
 
 -- the variables of a pattern, in text order
 unfoldable pub variables_in : Pattern → Variables
-variables_in = fold-Pattern Variables Variables in_form in_element
+variables_in = fold_within levels in_form in_element
 
 unfoldable pub element_variables : PatternElement → Variables
-element_variables = fold-PatternElement Variables Variables in_form in_element
+element_variables = of_element in_element variables_in
 
 abbrev pub sets : ℕ → PatternVariable → Bool
 sets number x = not x.is_test && nat_eq number x.number

@@ -1,2 +1,4 @@
 //! The bindings of patterns on values.
 #![tactic(auto)]
+
+pub mod laws;

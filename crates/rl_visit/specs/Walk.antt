@@ -19,10 +19,14 @@ pub data Answer : Type 0 where
   -- it was served, and this value stands in its place
   changed : Plain → Answer
 
+-- where a node stands: the number of the child at each step from the root down
+abbrev pub Position : Type 0
+Position = List ℕ
+
 -- what comes of a walk
 pub data Walked : Type 0 where
-  -- the answers are used up at this node
-  ask : Plain → Walked
+  -- the answers are used up at this node, which stands there
+  ask : Position → Plain → Walked
   -- it ends in this value; whether something was served, and the answers that are left
   end : Plain → Bool → List Answer → Walked
   -- a value would stand where its type, or sort, does not fit
@@ -36,13 +40,20 @@ Going = Plain → Bool → List Answer → Walked
 -- goes on from the end of a walk
 abbrev pub on_end : Walked → Going → Walked
 on_end (end v served given) go = go v served given
-on_end (ask v) go = ask v
+on_end (ask place v) go = ask place v
 on_end visit_type go = visit_type
 on_end too_large go = too_large
 
+-- what comes of a walk over a child, in the walk over its parent
+abbrev pub in_child : ℕ → Walked → Walked
+in_child number (ask place v) = ask (number ∷ place) v
+in_child number (end v served given) = end v served given
+in_child number visit_type = visit_type
+in_child number too_large = too_large
+
 -- the node takes an answer
 abbrev pub at_node : Plain → List Answer → Going → Walked
-at_node v [] go = ask v
+at_node v [] go = ask [] v
 at_node v (no ∷ given) go = go v false given
 at_node v (kept ∷ given) go = go v true given
 at_node v (changed u ∷ given) go = go u true given
@@ -50,7 +61,8 @@ at_node v (changed u ∷ given) go = go u true given
 -- a walk of each child, from the left; `done` are the children that came of those before
 abbrev pub each_kid : (Plain → List Answer → Walked) → (done kids : List Plain) → Bool → List Answer → (List Plain → Bool → List Answer → Walked) → Walked
 each_kid walk done [] served given go = go done served given
-each_kid walk done (kid ∷ kids) served given go = on_end (walk kid given) (λ v s left. each_kid walk (done ++ v ∷ []) kids (served || s) left go)
+each_kid walk done (kid ∷ kids) served given go =
+    on_end (in_child (length done) (walk kid given)) (λ v s left. each_kid walk (done ++ v ∷ []) kids (served || s) left go)
 
 -- Renewal.
 
@@ -107,7 +119,7 @@ renewed d v ks served given go =
 
 -- the children, and then the node
 abbrev pub bottom_up : ℕ → Declarations → Plain → List Answer → Walked
-bottom_up zero d v given = ask v
+bottom_up zero d v given = ask [] v
 bottom_up (suc k) d v given =
     each_kid (bottom_up k d) [] (kids_of v) false given (λ ks below left.
     renewed d v ks below left (λ u s more.
@@ -115,7 +127,7 @@ bottom_up (suc k) d v given =
 
 -- the children, and then the node where none below it was served
 abbrev pub bottom_up_break : ℕ → Declarations → Plain → List Answer → Walked
-bottom_up_break zero d v given = ask v
+bottom_up_break zero d v given = ask [] v
 bottom_up_break (suc k) d v given =
     each_kid (bottom_up_break k d) [] (kids_of v) false given (λ ks below left.
     renewed d v ks below left (λ u s more.
@@ -123,7 +135,7 @@ bottom_up_break (suc k) d v given =
 
 -- the node, and then the children of what came of it
 abbrev pub top_down : ℕ → Declarations → Plain → List Answer → Walked
-top_down zero d v given = ask v
+top_down zero d v given = ask [] v
 top_down (suc k) d v given =
     at_node v given (λ u here left.
     each_kid (top_down k d) [] (kids_of u) here left (λ ks served more.
@@ -131,7 +143,7 @@ top_down (suc k) d v given =
 
 -- the node, and then its children where it was not served
 abbrev pub top_down_break : ℕ → Declarations → Plain → List Answer → Walked
-top_down_break zero d v given = ask v
+top_down_break zero d v given = ask [] v
 top_down_break (suc k) d v given =
     at_node v given (λ u here left.
     if here then end u true left
@@ -139,7 +151,7 @@ top_down_break (suc k) d v given =
 
 -- a walk again and again, until one leaves the value equal
 abbrev pub until_equal : ℕ → (Plain → List Answer → Walked) → Plain → Bool → List Answer → Walked
-until_equal zero walk v served given = ask v
+until_equal zero walk v served given = ask [] v
 until_equal (suc k) walk v served given =
     on_end (walk v given) (λ u s left. if plain_eq v u then end u (served || s) left else until_equal k walk u (served || s) left)
 

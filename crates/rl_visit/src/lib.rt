@@ -1,2 +1,5 @@
 //! Walks over the nodes of a value.
 #![tactic(auto)]
+
+pub mod examples;
+pub mod laws;

@@ -1,0 +1,10 @@
+//! What holds of the bindings of patterns.
+
+ghost use Rattle.rl_match.specs.Laws.{AreByForm, VariablesAreByForm};
+
+/// The bindings of a pattern are by its form and by those of the patterns in it, at any depth: how many levels their definition
+/// opens makes no difference. So are its variables.
+pub fn bindings_are_by_form()
+    ensures bindings { AreByForm }
+    ensures variables { VariablesAreByForm }
+{}
