@@ -75,7 +75,7 @@ either-guarded true x y h k = h
 either-guarded false x y h k = k
 
 visit-guarded : (p : Program) (strategy : Strategy) (cs : List Case) (ty : Ty) (v : Plain) (given : List Answer) (d : ℕ) (o : Walked) (s : State) → Guarded (visit_at p strategy cs ty v given d o s)
-visit-guarded p strategy cs ty v given d (ask u) s = tt
+visit-guarded p strategy cs ty v given d (ask place u) s = tt
 visit-guarded p strategy cs ty v given d (end w served left) s = either-guarded (has_type p w ty) _ _ tt tt
 visit-guarded p strategy cs ty v given d visit_type s = tt
 visit-guarded p strategy cs ty v given d too_large s = tt

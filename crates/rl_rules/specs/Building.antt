@@ -7,8 +7,11 @@ use Rattle.rl_syntax.specs.declared.declaration.Body.TheVariants.{Statements, Va
 use Rattle.rl_syntax.specs.declared.declaration.Decl.{Decl}
 use Rattle.rl_syntax.specs.declared.declaration.Decl.TheVariants as d
 use Rattle.rl_syntax.specs.declared.declaration.Function.{Function}
+use Rattle.rl_syntax.specs.declared.declaration.Modifier.{Modifier}
+use Rattle.rl_syntax.specs.declared.declaration.Modifier.TheVariants.{Default}
 use Rattle.rl_syntax.specs.declared.expression.Exp.{Exp}
 use Rattle.rl_syntax.specs.declared.expression.Exp.TheVariants as x
+use Rattle.rl_syntax.specs.declared.expression.Suffix.TheVariants as u
 use Rattle.rl_syntax.specs.declared.identifier.Identifier.{Identifier}
 use Rattle.rl_syntax.specs.declared.identifier.PatternVariable.{PatternVariable}
 use Rattle.rl_syntax.specs.declared.module.Module.{Module}
@@ -75,6 +78,14 @@ plus left right = x.Sum here (left ∷ right ∷ []) (o.Add ∷ [])
 abbrev pub less : Exp → Exp → Exp
 less left right = x.Compared here left c.Less right
 
+-- `e[i]`
+abbrev pub subscript : Exp → Exp → Exp
+subscript value index = x.Suffixed here value (u.Subscript here index ∷ [])
+
+-- `a ? b`
+abbrev pub fallback : Exp → Exp → Exp
+fallback value other = x.Fallback here value other
+
 abbrev pub matches : Pattern → Exp → Exp
 matches pattern value = x.Match here pattern value
 
@@ -112,11 +123,19 @@ each conditions body = t.For here conditions body
 abbrev pub repeat : List Exp → Stat → Stat
 repeat conditions body = t.While here conditions body
 
+-- `do body while (conditions);`
+abbrev pub repeat_after : Stat → List Exp → Stat
+repeat_after body conditions = t.Do here body conditions
+
 abbrev pub switch : Exp → List Case → Stat
 switch subject cases = t.Switch here subject cases
 
 abbrev pub finally : Stat → Stat → Stat
 finally body last = t.Try here body [] (Some last)
+
+-- `try body catch: handler`
+abbrev pub catching : Stat → Stat → Stat
+catching body handler = t.Try here body (h.Any here handler ∷ []) None
 
 abbrev pub return : Exp → Stat
 return value = t.ReturnValue here value
@@ -126,6 +145,16 @@ throw value = t.Throw here value
 
 abbrev pub fail : Stat
 fail = t.Fail here
+
+abbrev pub break : Stat
+break = t.Break here
+
+abbrev pub continue : Stat
+continue = t.Continue here
+
+-- `;`
+abbrev pub nothing : Stat
+nothing = t.Empty here
 
 -- `int x = e;`
 abbrev pub declare : ℕ → Exp → Stat
@@ -155,6 +184,10 @@ new n = p.Variable here (pattern_variable n false)
 abbrev pub test : ℕ → Pattern
 test n = p.Variable here (pattern_variable n true)
 
+abbrev pub number_pattern : ℕ → Pattern
+number_pattern n = p.Integer here (pos n)
+
+-- `*x`
 abbrev pub rest : ℕ → PatternElement
 rest n = q.Rest here (pattern_variable n false)
 
@@ -181,15 +214,25 @@ void_type = ty.Void here
 abbrev pub int_type : Ty
 int_type = ty.Int here
 
+abbrev pub bool_type : Ty
+bool_type = ty.Bool here
+
 abbrev pub named_type : List ℕ → Ty
 named_type text = ty.Named here text
 
-abbrev pub function : Ty → List ℕ → List Pattern → List Stat → Decl
-function type text parameters body =
-    d.Function (record { place = here; private = false; modifier = None; ty = type; name = name text 0; parameters = parameters; body = Statements body })
+abbrev pub function_marked : Option Modifier → Ty → List ℕ → List Pattern → List Stat → Decl
+function_marked modifier type text parameters body =
+    d.Function (record { place = here; private = false; modifier = modifier; ty = type; name = name text 0; parameters = parameters; body = Statements body })
 
-abbrev pub global : ℕ → Exp → Decl
-global n value = d.Global here false int_type (name (codes "x") n) value
+abbrev pub function : Ty → List ℕ → List Pattern → List Stat → Decl
+function = function_marked None
+
+abbrev pub default_function : Ty → List ℕ → List Pattern → List Stat → Decl
+default_function = function_marked (Some Default)
+
+-- `int name = e;`
+abbrev pub global : List ℕ → ℕ → Exp → Decl
+global text n value = d.Global here false int_type (name text n) value
 
 abbrev pub program_with : List Constructor → List Decl → Program
 program_with constructors declarations = record {

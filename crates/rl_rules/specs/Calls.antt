@@ -102,10 +102,10 @@ alternative_rule p a vs d s = after (parameters p a.function d vs s) (returned (
 abbrev pub has_function : Program → (x : ℕ) → List ℕ → Bool
 has_function p x name = list_any (λ a. bytes_eq name a.function.name.name) (visible_functions p.modules x)
 
--- a function of the program hides a library function of its name
-abbrev pub call_with : Program → (x : ℕ) → List ℕ → SortArgument → List Plain → ℕ → State → Rule
-call_with p x name wanted vs d s =
-    if is_some (constructor p.declarations name (length vs)) then literal (node name (plains_of vs)) s
+-- A constructor goes by its name and the number of arguments, of which `#S` is one, though it has no value. A function of the program hides a library function of its name.
+abbrev pub call_with : Program → (x : ℕ) → List ℕ → (count : ℕ) → SortArgument → List Plain → ℕ → State → Rule
+call_with p x name count wanted vs d s =
+    if is_some (constructor p.declarations name count) then literal (node name (plains_of vs)) s
     else if has_function p x name then function_call p x name vs d s
     else library_call p name wanted vs s
 
@@ -124,4 +124,4 @@ arguments [] d one vs go s = go one vs s
 arguments (x ∷ xs) d one vs go s = argument x (out-Exp x) d (λ other us. arguments xs d (first_sort one other) (vs ++ us) go) s
 
 abbrev pub call : Program → Identifier → List Exp → ℕ → State → Rule
-call p name xs d s = arguments xs d no_sort [] (λ one vs. call_with p name.place.module name.name one vs d) s
+call p name xs d s = arguments xs d no_sort [] (λ one vs. call_with p name.place.module name.name (length xs) one vs d) s

@@ -1,8 +1,8 @@
 -- Small programs with what they print, how they end, and the units that are left.
 use Rattle.std.specs.Prelude.{◌≡◌, ℕ, pos, true, false, List, [], ◌∷◌, ◌^◌, ◌-◌, codes}
 use Rattle.rl_base.specs.Holds.{FileMap}
-use Rattle.rl_exception.specs.Exceptions.{uninitialized_variable}
-use Rattle.rl_rules.specs.Building.{main, program, function, int_type, print_line, text, run, done, cut, block, increase, variable, less, declare, finally, return, throw, repeat, number, plus, only, global, call}
+use Rattle.rl_exception.specs.Exceptions.{uninitialized_variable, index_out_of_bounds}
+use Rattle.rl_rules.specs.Building.{main, program, function, default_function, void_type, int_type, bool_type, print_line, text, truth, run, done, cut, block, increase, variable, less, declare, assign, finally, catching, return, throw, fail, break, continue, nothing, repeat, repeat_after, provided, number, list, set, pair, plus, it, reduce, matches, enumerate, each, switch, on, new, test, rest, one, number_pattern, list_pattern, set_pattern, pair_pattern, subscript, fallback, global, call}
 use Rattle.rl_rules.specs.Program.{Program}
 use Rattle.rl_rules.specs.Rule.{Val, Thr}
 use Rattle.rl_value.specs.Plain as v
@@ -51,10 +51,159 @@ counting = main (
 abbrev pub Counting : FileMap → Type 0
 Counting files = (run counting files 26 ≡ done (Val empty_tuple) 0 (codes "0\n1\n")) × (run counting files 25 ≡ cut (codes "0\n1\n"))
 
--- void main() { x += 1; }, where the global x has no value yet
+-- int y = f(); int x = 1; int f() { x += 1; return x; } void main() { }
 abbrev pub without_value : Program
-without_value = main (increase 0 (number 1) ∷ [])
+without_value = program (
+    global (codes "y") 1 (call (codes "f") [])
+    ∷ global (codes "x") 0 (number 1)
+    ∷ function int_type (codes "f") [] (increase 0 (number 1) ∷ return (variable 0) ∷ [])
+    ∷ function void_type (codes "main") [] []
+    ∷ [])
 
--- the right side is evaluated before the old value is looked for
+-- a global is looked for after the right side was evaluated, and has no value before its initialiser was
 abbrev pub WithoutValue : FileMap → Type 0
-WithoutValue files = run without_value files 4 ≡ done (Thr (uninitialized_variable (codes "x"))) 0 []
+WithoutValue files = run without_value files 5 ≡ done (Thr (uninitialized_variable (codes "x"))) 0 []
+
+-- void main() { println([1][1]); }
+abbrev pub out_of_range : Program
+out_of_range = main (print_line (subscript (list (number 1 ∷ [])) (number 1)) ∷ [])
+
+abbrev pub OutOfRange : FileMap → Type 0
+OutOfRange files = run out_of_range files 8 ≡ done (Thr (index_out_of_bounds (pos 1))) 0 []
+
+-- void main() { println([1][1] ? 2); }
+abbrev pub falling_back : Program
+falling_back = main (print_line (fallback (subscript (list (number 1 ∷ [])) (number 1)) (number 2)) ∷ [])
+
+abbrev pub FallingBack : FileMap → Type 0
+FallingBack files = run falling_back files 10 ≡ done (Val empty_tuple) 0 (codes "2\n")
+
+-- void main() { int x = 0; do { x += 1; if (x < 2) continue; println(x); break; } while (true); }
+abbrev pub leaving_loop : Program
+leaving_loop = main (
+    declare 0 (number 0)
+    ∷ repeat_after (block (increase 0 (number 1) ∷ provided (less (variable 0) (number 2) ∷ []) continue ∷ print_line (variable 0) ∷ break ∷ [])) (truth true ∷ [])
+    ∷ [])
+
+-- the test is evaluated after `continue`, and not after `break`
+abbrev pub LeavingLoop : FileMap → Type 0
+LeavingLoop files = run leaving_loop files 25 ≡ done (Val empty_tuple) 0 (codes "2\n")
+
+-- void main() { int x = 0; try { x = 1; throw "a"; } catch: println(x); }
+abbrev pub handled : Program
+handled = main (
+    declare 0 (number 0)
+    ∷ catching (block (assign 0 (number 1) ∷ throw (text (codes "a")) ∷ [])) (print_line (variable 0))
+    ∷ [])
+
+-- a handler sees the state as the throw left it
+abbrev pub Handled : FileMap → Type 0
+Handled files = run handled files 14 ≡ done (Val empty_tuple) 0 (codes "1\n")
+
+-- void main() { try { println("a"); println("b"); } finally println("c"); }
+abbrev pub finally_at_a_cut : Program
+finally_at_a_cut = main (
+    finally (block (print_line (text (codes "a")) ∷ print_line (text (codes "b")) ∷ [])) (print_line (text (codes "c")))
+    ∷ [])
+
+-- where the derivation is cut, `finally` is not used
+abbrev pub FinallyAtACut : FileMap → Type 0
+FinallyAtACut files = (run finally_at_a_cut files 13 ≡ done (Val empty_tuple) 0 (codes "a\nb\nc\n")) × (run finally_at_a_cut files 8 ≡ cut (codes "a\n"))
+
+-- default int f() { return 2; } int f() { println("f"); fail; } void main() { println(f()); }
+abbrev pub next_alternative : Program
+next_alternative = program (
+    default_function int_type (codes "f") [] (return (number 2) ∷ [])
+    ∷ function int_type (codes "f") [] (print_line (text (codes "f")) ∷ fail ∷ [])
+    ∷ function void_type (codes "main") [] (print_line (call (codes "f") []) ∷ [])
+    ∷ [])
+
+-- `fail` leads to the next alternative, those marked `default` come last, and what was printed stays
+abbrev pub NextAlternative : FileMap → Type 0
+NextAlternative files = run next_alternative files 15 ≡ done (Val empty_tuple) 0 (codes "f\n2\n")
+
+-- int x = 0; bool f() { x += 1; return false; } void main() { if (f()) ; println(x); }
+abbrev pub false_condition : Program
+false_condition = program (
+    global (codes "x") 0 (number 0)
+    ∷ function bool_type (codes "f") [] (increase 0 (number 1) ∷ return (truth false) ∷ [])
+    ∷ function void_type (codes "main") [] (provided (call (codes "f") [] ∷ []) nothing ∷ print_line (variable 0) ∷ [])
+    ∷ [])
+
+-- where nothing was bound, the changes of a condition that is false stand
+abbrev pub FalseCondition : FileMap → Type 0
+FalseCondition files = run false_condition files 14 ≡ done (Val empty_tuple) 0 (codes "1\n")
+
+-- void main() { for (x <- [1, 2, 3]) ; }
+abbrev pub three_elements : Program
+three_elements = main (each (enumerate (new 0) (list (number 1 ∷ number 2 ∷ number 3 ∷ [])) ∷ []) nothing ∷ [])
+
+-- the alternative, its binding, the loop, the enumeration, the list with its three literals, and for each element its binding and the body
+abbrev pub ThreeElements : FileMap → Type 0
+ThreeElements files = (run three_elements files 14 ≡ done (Val empty_tuple) 0 []) × (run three_elements files 13 ≡ cut [])
+
+-- void main() { println((0 | it + x | x <- [1, 2, 3])); }
+abbrev pub reducing : Program
+reducing = main (print_line (reduce (number 0) (plus it (variable 0)) (enumerate (new 0) (list (number 1 ∷ number 2 ∷ number 3 ∷ [])) ∷ [])) ∷ [])
+
+abbrev pub Reducing : FileMap → Type 0
+Reducing files = run reducing files 23 ≡ done (Val empty_tuple) 0 (codes "6\n")
+
+-- void main() { int n = 0; switch ([1, 2, 3]) { case [*a, x, *b]: { n += 1; println(x); if (x < 3) fail; println(n); } } }
+abbrev pub taken_back : Program
+taken_back = main (
+    declare 0 (number 0)
+    ∷ switch (list (number 1 ∷ number 2 ∷ number 3 ∷ [])) (
+    on (list_pattern (rest 1 ∷ one (new 2) ∷ rest 3 ∷ []))
+    (block (increase 0 (number 1) ∷ print_line (variable 2) ∷ provided (less (variable 2) (number 3) ∷ []) fail ∷ print_line (variable 0) ∷ []) ∷ [])
+    ∷ [])
+    ∷ [])
+
+-- a binding under which the body fails is taken back with what was assigned under it, but not with what was printed
+abbrev pub TakenBack : FileMap → Type 0
+TakenBack files = run taken_back files 47 ≡ done (Val empty_tuple) 0 (codes "1\n2\n3\n1\n")
+
+-- void main() { int k = 1; for (<k, y> <- [<1, 2>, <2, 3>, <1, 4>]) { k = 2; println(y); } }
+abbrev pub fixed_at_start : Program
+fixed_at_start = main (
+    declare 0 (number 1)
+    ∷ each (enumerate (pair_pattern (test 0) (new 1)) (list (pair (number 1) (number 2) ∷ pair (number 2) (number 3) ∷ pair (number 1) (number 4) ∷ [])) ∷ [])
+    (block (assign 0 (number 2) ∷ print_line (variable 1) ∷ []))
+    ∷ [])
+
+-- the bindings are those with the value that k has where the loop begins
+abbrev pub FixedAtStart : FileMap → Type 0
+FixedAtStart files = run fixed_at_start files 30 ≡ done (Val empty_tuple) 0 (codes "2\n4\n")
+
+-- void main() { for ({*a, *b} := {2, 1}) println(<a, b>); }
+abbrev pub divided : Program
+divided = main (
+    each (matches (set_pattern (rest 0 ∷ rest 1 ∷ [])) (set (number 2 ∷ number 1 ∷ [])) ∷ []) (print_line (pair (variable 0) (variable 1)))
+    ∷ [])
+
+abbrev pub Divided : FileMap → Type 0
+Divided files = run divided files 31 ≡ done (Val empty_tuple) 0 (codes "<{1,2},{}>\n<{1},{2}>\n<{2},{1}>\n<{},{1,2}>\n")
+
+-- int x = 0; bool f() { x += 1; return false; } void main() { if (y <- [1, 2], f()) ; println(x); }
+abbrev pub false_under_member : Program
+false_under_member = program (
+    global (codes "x") 0 (number 0)
+    ∷ function bool_type (codes "f") [] (increase 0 (number 1) ∷ return (truth false) ∷ [])
+    ∷ function void_type (codes "main") [] (provided (enumerate (new 1) (list (number 1 ∷ number 2 ∷ [])) ∷ call (codes "f") [] ∷ []) nothing ∷ print_line (variable 0) ∷ [])
+    ∷ [])
+
+-- the changes of a condition that is false under a member are undone with the member
+abbrev pub FalseUnderMember : FileMap → Type 0
+FalseUnderMember files = run false_under_member files 27 ≡ done (Val empty_tuple) 0 (codes "0\n")
+
+-- int f(1) { return 10; } int f(n) { return 20; } void main() { println(f(2)); }
+abbrev pub other_alternative : Program
+other_alternative = program (
+    function int_type (codes "f") (number_pattern 1 ∷ []) (return (number 10) ∷ [])
+    ∷ function int_type (codes "f") (new 0 ∷ []) (return (number 20) ∷ [])
+    ∷ function void_type (codes "main") [] (print_line (call (codes "f") (number 2 ∷ [])) ∷ [])
+    ∷ [])
+
+-- an alternative that does not take the arguments costs its unit, and leads to the next
+abbrev pub OtherAlternative : FileMap → Type 0
+OtherAlternative files = run other_alternative files 11 ≡ done (Val empty_tuple) 0 (codes "20\n")

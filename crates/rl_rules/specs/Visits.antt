@@ -30,7 +30,7 @@ visited p ty w s = if has_type p w ty then give w s else throw x.visit_type s
 
 -- by where the walk stands after the answers
 abbrev pub visit_at : Program → Strategy → List Case → Ty → Plain → List Answer → ℕ → Walked → State → Rule
-visit_at p strategy cs ty v given d (ask u) s = Use (node cs u) (d + 1) s (node_end strategy cs ty v given d)
+visit_at p strategy cs ty v given d (ask place u) s = Use (node cs u) (d + 1) s (node_end strategy cs ty v given d)
 visit_at p strategy cs ty v given d (end w served left) s = visited p ty w s
 visit_at p strategy cs ty v given d visit_type s = throw x.visit_type s
 visit_at p strategy cs ty v given d too_large s = throw x.too_large s

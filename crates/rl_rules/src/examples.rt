@@ -1,7 +1,7 @@
 //! Small programs, evaluated.
 
 ghost use Rattle.rl_base.specs.Holds.{FileMap};
-ghost use Rattle.rl_rules.specs.Examples.{OneLine, FinallyAfterReturn, FinallyThrows, Counting, WithoutValue};
+ghost use Rattle.rl_rules.specs.Examples.{OneLine, FinallyAfterReturn, FinallyThrows, Counting, WithoutValue, OutOfRange, FallingBack, LeavingLoop, Handled, FinallyAtACut, NextAlternative, FalseCondition, ThreeElements, Reducing, TakenBack, FixedAtStart, Divided, FalseUnderMember, OtherAlternative};
 
 /// A program of one line takes five units, and prints nothing with four.
 pub fn one_line()
@@ -26,4 +26,74 @@ pub fn counting()
 /// A global without a value throws where its old value is needed.
 pub fn without_value()
     ensures { (files : FileMap) → WithoutValue files }
+{}
+
+/// A subscript out of range throws.
+pub fn out_of_range()
+    ensures { (files : FileMap) → OutOfRange files }
+{}
+
+/// `a ? b` is `b` where there is no such index.
+pub fn falling_back()
+    ensures { (files : FileMap) → FallingBack files }
+{}
+
+/// `continue` ends the body, and `break` the loop.
+pub fn leaving_loop()
+    ensures { (files : FileMap) → LeavingLoop files }
+{}
+
+/// A handler sees the state as the throw left it.
+pub fn handled()
+    ensures { (files : FileMap) → Handled files }
+{}
+
+/// Where no unit is left, nothing more happens, and `finally` is not used.
+pub fn finally_at_a_cut()
+    ensures { (files : FileMap) → FinallyAtACut files }
+{}
+
+/// `fail` leads to the next alternative of a function, and one that is marked `default` comes last.
+pub fn next_alternative()
+    ensures { (files : FileMap) → NextAlternative files }
+{}
+
+/// The changes of a condition that is false stand where nothing was bound.
+pub fn false_condition()
+    ensures { (files : FileMap) → FalseCondition files }
+{}
+
+/// A binding costs a unit beside those of the body.
+pub fn three_elements()
+    ensures { (files : FileMap) → ThreeElements files }
+{}
+
+/// A reducer goes on from its start for each binding.
+pub fn reducing()
+    ensures { (files : FileMap) → Reducing files }
+{}
+
+/// A binding under which the body fails is taken back, but not what was printed.
+pub fn taken_back()
+    ensures { (files : FileMap) → TakenBack files }
+{}
+
+/// The bindings of a loop are fixed where it begins.
+pub fn fixed_at_start()
+    ensures { (files : FileMap) → FixedAtStart files }
+{}
+
+/// A set is divided among stars in every way, each once, in order.
+pub fn divided()
+    ensures { (files : FileMap) → Divided files }
+{}
+
+/// The changes of a condition that is false under a binding are undone.
+pub fn false_under_member()
+    ensures { (files : FileMap) → FalseUnderMember files }
+{}
+
+/// An alternative that does not take the arguments leads to the next.
+pub fn other_alternative()
+    ensures { (files : FileMap) → OtherAlternative files }
 {}
