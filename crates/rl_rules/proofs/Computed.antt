@@ -8,7 +8,7 @@ use Rattle.rl_match.specs.Folds.{fold_within}
 use Rattle.rl_match.specs.Tests.{variables_in, element_variables}
 use Rattle.rl_operators.specs.Arithmetic.{whole}
 use Rattle.rl_syntax.specs.declared.expression.Exp.{out-Exp}
-use Rattle.rl_syntax.specs.declared.expression.Exp.TheBlock.{shown-the_row-Exp-0, shown-the_row-Exp-Disjunction-1-1-1, shown-the_row-Case-Default-1-1-6, shown-the_row-Stat-5}
+use Rattle.rl_syntax.specs.declared.expression.Exp.TheBlock.{shown-the_row-Exp-0, shown-the_row-Exp-Disjunction-1-1-1, shown-the_row-Suffix-2, shown-the_row-Case-3, shown-the_row-Exp-Visit-3-1-4, shown-the_row-Stat-5, shown-the_row-Case-Default-1-1-6, shown-the_row-Handler-7, shown-the_row-Stat-Try-2-1-8}
 use Rattle.rl_syntax.specs.declared.expression.Suffix.{out-Suffix}
 use Rattle.rl_syntax.specs.declared.pattern.Pattern.{out-Pattern}
 use Rattle.rl_syntax.specs.declared.pattern.Pattern.TheBlock.{shown-the_row-Pattern-0, shown-the_row-Pattern-Constructor-2-1-1, shown-the_row-PatternElement-2}
@@ -27,7 +27,7 @@ use Rattle.rl_rules.specs.Run.{derivation}
 
 -- what an example computes by
 computing : Unit {0}
-unfolding derivation eval eval_within entered rule_of rule_of_turn bare conditions_in fits fitting throwing whole digits bindings element variables_in element_variables fold_within out-Exp out-Stat out-Ty out-Suffix out-Case out-Handler out-Pattern out-PatternElement out shown hidden shown-the_row-Exp-0 shown-the_row-Exp-Disjunction-1-1-1 shown-the_row-Case-Default-1-1-6 shown-the_row-Stat-5 shown-the_row-Pattern-0 shown-the_row-Pattern-Constructor-2-1-1 shown-the_row-PatternElement-2
+unfolding derivation eval eval_within entered rule_of rule_of_turn bare conditions_in fits fitting throwing whole digits bindings element variables_in element_variables fold_within out-Exp out-Stat out-Ty out-Suffix out-Case out-Handler out-Pattern out-PatternElement out shown hidden shown-the_row-Exp-0 shown-the_row-Exp-Disjunction-1-1-1 shown-the_row-Suffix-2 shown-the_row-Case-3 shown-the_row-Exp-Visit-3-1-4 shown-the_row-Stat-5 shown-the_row-Case-Default-1-1-6 shown-the_row-Handler-7 shown-the_row-Stat-Try-2-1-8 shown-the_row-Pattern-0 shown-the_row-Pattern-Constructor-2-1-1 shown-the_row-PatternElement-2
 computing = tt
 
 pub one_line : (files : FileMap) → OneLine files
