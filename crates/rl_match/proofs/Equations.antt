@@ -11,11 +11,10 @@ use Rattle.rl_syntax.specs.declared.pattern.Pattern.TheVariants as v
 use Rattle.rl_syntax.specs.declared.pattern.PatternElement.{PatternElement, out-PatternElement}
 use Rattle.rl_syntax.specs.declared.pattern.PatternElement.TheVariants as e
 use Rattle.rl_match.specs.Below.{below}
-use Rattle.rl_match.specs.Tests.{Variables, variables_in, element_variables, all_of, in_form, in_element}
-use Rattle.rl_match.specs.Bindings.{Binding, Context, Matching, Element, one, star, bindings, element, on_form, on_element, on_type, on_both, on_variable, on_literal, where_none, on_constructor, on_list_value, on_set_value, on_tuple, on_elements_of_type}
+use Rattle.rl_match.specs.Tests.{variables_in, element_variables, all_of}
+use Rattle.rl_match.specs.Bindings.{Binding, Context, one, star, bindings, element, on_type, on_both, on_variable, on_literal, where_none, on_constructor, on_list_value, on_set_value, on_tuple, on_elements_of_type}
 use Rattle.rl_syntax.specs.declared.pattern.Pattern.TheBlock.{shown-the_row-Pattern-0, shown-the_row-Pattern-Constructor-2-1-1, shown-the_row-PatternElement-2, seen-the_row-Pattern-Constructor-2-1-1, seen-the_row-PatternElement-2}
 use denote.Hole.Carrier.{out, shown, hidden}
-use Rattle.rl_match.specs.Folds.{of_element}
 use Rattle.rl_match.proofs.Levels.{bindings-by_form, variables-by_form}
 
 -- what a form computes by

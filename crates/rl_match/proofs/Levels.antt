@@ -1,12 +1,12 @@
 -- How many levels a fold opens makes no difference.
-use Rattle.std.proofs.Common.{◌≡◌, ℕ, zero, suc, List, [], ◌∷◌, map, refl, sym, ◌∙◌, ap}
+use Rattle.std.proofs.Common.{◌≡◌, ℕ, zero, suc, refl, sym, ◌∙◌, ap}
 use mathlib.Core.Path.{fun_ext}
 use Rattle.rl_syntax.specs.declared.pattern.Pattern.{Pattern, out-Pattern}
 use Rattle.rl_syntax.specs.declared.pattern.Pattern.TheOpen as p
-use Rattle.rl_syntax.specs.declared.pattern.PatternElement.{PatternElement, out-PatternElement}
+use Rattle.rl_syntax.specs.declared.pattern.PatternElement.{PatternElement}
 use Rattle.rl_syntax.specs.declared.pattern.Pattern.TheFolds.{fold-Pattern, fold-PatternElement, fold_out-Pattern, fold_out-PatternElement}
-use Rattle.rl_match.specs.Bindings.{Context, Matching, Element, bindings, element, on_form, on_element}
-use Rattle.rl_match.specs.Folds.{form_of, element_of, of_element, fold_within, levels}
+use Rattle.rl_match.specs.Bindings.{Matching, Element, bindings, element, on_form, on_element}
+use Rattle.rl_match.specs.Folds.{form_of, of_element, fold_within, levels}
 use Rattle.rl_match.specs.Laws.{AreByForm, VariablesAreByForm}
 use Rattle.rl_match.specs.Tests.{Variables, variables_in, element_variables, in_form, in_element}
 

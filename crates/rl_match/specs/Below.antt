@@ -1,6 +1,6 @@
 -- The values in a value, at any depth.
 use Rattle.std.specs.Prelude.{Bool, true, false, List, [], ◌∷◌, ◌++◌}
-use Rattle.rl_value.specs.Plain.{Plain, bool, int, text, location, tuple, list, set, mapping, node, tree, leaf, Plains, nil, cons, Pairs, no_pairs, pair}
+use Rattle.rl_value.specs.Plain.{Plain, tuple, list, set, mapping, node, tree, leaf, Plains, nil, cons, Pairs, no_pairs, pair}
 use Rattle.rl_value.specs.Kids.{by_role}
 
 unfoldable mutual

@@ -1,7 +1,7 @@
 -- The bindings of a pattern on a value, as whole lists.
-use Rattle.std.specs.Prelude.{ℕ, ℤ, nat_eq, if◌then◌else◌, Bool, List, [], ◌∷◌, ◌++◌, length, map, flat_map, Option, Some, None}
+use Rattle.std.specs.Prelude.{ℕ, nat_eq, if◌then◌else◌, Bool, List, [], ◌∷◌, ◌++◌, length, map, flat_map, Option, Some, None}
 use Rattle.std.specs.List.{list_all}
-use Rattle.rl_value.specs.Plain.{Plain, bool, int, text, location, tuple, list, set, node, Plains, plains_of, items_of}
+use Rattle.rl_value.specs.Plain.{Plain, bool, int, text, location, tuple, list, set, node, plains_of, items_of}
 use Rattle.rl_value.specs.declared.shape.Scheme.TheVariants.{Cwd, Unknown}
 use Rattle.rl_value.specs.Laws.{plain_eq}
 use Rattle.std.specs.Prelude.{bytes_eq}

@@ -1,5 +1,5 @@
 -- Folds over patterns that compute.
-use Rattle.std.specs.Prelude.{ℕ, zero, suc, List, map}
+use Rattle.std.specs.Prelude.{ℕ, zero, suc, map}
 use Rattle.rl_syntax.specs.declared.pattern.Pattern.{Pattern, out-Pattern}
 use Rattle.rl_syntax.specs.declared.pattern.Pattern.TheOpen as p
 use Rattle.rl_syntax.specs.declared.pattern.PatternElement.{PatternElement, out-PatternElement}

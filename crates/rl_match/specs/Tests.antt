@@ -1,5 +1,5 @@
 -- The variables that patterns test.
-use Rattle.std.specs.Prelude.{ℕ, nat_eq, not, ◌&&◌, Bool, List, [], ◌∷◌, ◌++◌, map, filter, flat_map}
+use Rattle.std.specs.Prelude.{ℕ, nat_eq, not, ◌&&◌, Bool, List, [], ◌∷◌, ◌++◌, filter, flat_map}
 use Rattle.std.specs.List.{list_any}
 use Rattle.rl_syntax.specs.declared.fragment.Piece.{Piece}
 use Rattle.rl_syntax.specs.declared.fragment.Piece.TheVariants.{Text, Hole}

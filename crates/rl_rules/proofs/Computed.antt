@@ -20,7 +20,7 @@ use Rattle.rl_syntax.specs.declared.ty.Ty.{out-Ty}
 use denote.Hole.Carrier.{out, shown, hidden}
 use Rattle.rl_rules.specs.Conditions.{conditions_in}
 use Rattle.rl_rules.specs.Evaluation.{eval, eval_within}
-use Rattle.rl_rules.specs.Examples.{OneLine, FinallyAfterReturn, FinallyThrows, Counting, WithoutValue, OutOfRange, FallingBack, LeavingLoop, Handled, FinallyAtACut, NextAlternative, FalseCondition, ThreeElements, Reducing, TakenBack, FixedAtStart, Divided, FalseUnderMember, OtherAlternative}
+use Rattle.rl_rules.specs.Examples.{OneLine, FinallyAfterReturn, FinallyThrows, Counting, WithoutValue, OutOfRange, FallingBack, LeavingLoop, Handled, FinallyAtACut, NextAlternative, FalseCondition, ThreeElements, Reducing, TakenBack, FixedAtStart, Divided, FalseUnderMember, OtherAlternative, TestWithoutValue, SecondHandler, DeepestCall}
 use Rattle.rl_rules.specs.Parts.{bare}
 use Rattle.rl_rules.specs.Rules.{entered, rule_of, rule_of_turn}
 use Rattle.rl_rules.specs.Run.{derivation}
@@ -105,3 +105,15 @@ false_under_member files = refl
 pub other_alternative : (files : FileMap) → OtherAlternative files
 unfolding computing
 other_alternative files = refl
+
+pub test_without_value : (files : FileMap) → TestWithoutValue files
+unfolding computing
+test_without_value files = refl
+
+pub second_handler : (files : FileMap) → SecondHandler files
+unfolding computing
+second_handler files = refl
+
+pub deepest_call : (files : FileMap) → DeepestCall files
+unfolding computing
+deepest_call files = (refl, refl)

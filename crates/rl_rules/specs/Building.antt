@@ -133,9 +133,15 @@ switch subject cases = t.Switch here subject cases
 abbrev pub finally : Stat → Stat → Stat
 finally body last = t.Try here body [] (Some last)
 
+abbrev pub trying : Stat → List Handler → Stat
+trying body handlers = t.Try here body handlers None
+
+abbrev pub catch : Pattern → Stat → Handler
+catch pattern body = h.Matching here pattern body
+
 -- `try body catch: handler`
 abbrev pub catching : Stat → Stat → Stat
-catching body handler = t.Try here body (h.Any here handler ∷ []) None
+catching body handler = trying body (h.Any here handler ∷ [])
 
 abbrev pub return : Exp → Stat
 return value = t.ReturnValue here value
@@ -186,6 +192,9 @@ test n = p.Variable here (pattern_variable n true)
 
 abbrev pub number_pattern : ℕ → Pattern
 number_pattern n = p.Integer here (pos n)
+
+abbrev pub text_pattern : List ℕ → Pattern
+text_pattern bytes = p.Text here bytes
 
 -- `*x`
 abbrev pub rest : ℕ → PatternElement

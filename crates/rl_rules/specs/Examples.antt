@@ -1,10 +1,13 @@
 -- Small programs with what they print, how they end, and the units that are left.
 use Rattle.std.specs.Prelude.{◌≡◌, ℕ, pos, true, false, List, [], ◌∷◌, ◌^◌, ◌-◌, codes}
 use Rattle.rl_base.specs.Holds.{FileMap}
-use Rattle.rl_exception.specs.Exceptions.{uninitialized_variable, index_out_of_bounds}
-use Rattle.rl_rules.specs.Building.{main, program, function, default_function, void_type, int_type, bool_type, print_line, text, truth, run, done, cut, block, increase, variable, less, declare, assign, finally, catching, return, throw, fail, break, continue, nothing, repeat, repeat_after, provided, number, list, set, pair, plus, it, reduce, matches, enumerate, each, switch, on, new, test, rest, one, number_pattern, list_pattern, set_pattern, pair_pattern, subscript, fallback, global, call}
+use Rattle.rl_exception.specs.Exceptions.{uninitialized_variable, index_out_of_bounds, stack_overflow}
+use Rattle.rl_rules.specs.Building.{main, program, function, default_function, void_type, int_type, bool_type, print_line, text, truth, run, done, cut, block, increase, variable, less, declare, assign, finally, catching, trying, catch, only, Came, came_of, return, throw, fail, break, continue, nothing, repeat, repeat_after, provided, number, list, set, pair, plus, it, reduce, matches, enumerate, each, switch, on, new, test, rest, one, number_pattern, text_pattern, list_pattern, set_pattern, pair_pattern, subscript, fallback, global, call}
+use Rattle.rl_rules.specs.Evaluation.{eval}
+use Rattle.rl_rules.specs.Form.{expression}
 use Rattle.rl_rules.specs.Program.{Program}
 use Rattle.rl_rules.specs.Rule.{Val, Thr}
+use Rattle.rl_rules.specs.Run.{first_state}
 use Rattle.rl_value.specs.Plain as v
 use Rattle.rl_value.specs.Plain.{empty_tuple}
 
@@ -207,3 +210,44 @@ other_alternative = program (
 -- an alternative that does not take the arguments costs its unit, and leads to the next
 abbrev pub OtherAlternative : FileMap → Type 0
 OtherAlternative files = run other_alternative files 11 ≡ done (Val empty_tuple) 0 (codes "20\n")
+
+-- int y = f(1); int x = 2; int f(x) { return 5; } void main() { }
+abbrev pub test_without_value : Program
+test_without_value = program (
+    global (codes "y") 1 (call (codes "f") (number 1 ∷ []))
+    ∷ global (codes "x") 0 (number 2)
+    ∷ function int_type (codes "f") (test 0 ∷ []) (return (number 5) ∷ [])
+    ∷ function void_type (codes "main") [] []
+    ∷ [])
+
+-- a pattern that tests a global without a value throws where its bindings would be made
+abbrev pub TestWithoutValue : FileMap → Type 0
+TestWithoutValue files = run test_without_value files 3 ≡ done (Thr (uninitialized_variable (codes "x"))) 0 []
+
+-- void main() { try throw "a"; catch "b": ; catch x: println(x); }
+abbrev pub second_handler : Program
+second_handler = main (
+    trying (throw (text (codes "a"))) (
+    catch (text_pattern (codes "b")) nothing
+    ∷ catch (new 0) (print_line (variable 0))
+    ∷ [])
+    ∷ [])
+
+-- the first handler that takes the exception is used
+abbrev pub SecondHandler : FileMap → Type 0
+SecondHandler files = run second_handler files 9 ≡ done (Val empty_tuple) 0 (codes "a\n")
+
+-- void main() { f(); } void f() { }
+abbrev pub calling : Program
+calling = program (
+    function void_type (codes "main") [] (only (call (codes "f") []) ∷ [])
+    ∷ function void_type (codes "f") [] []
+    ∷ [])
+
+-- The call f() at this depth, with three units: for itself, for the alternative, and for its binding.
+abbrev pub CallAt : FileMap → ℕ → Came → Type 0
+CallAt files depth came = came_of (eval calling files (expression (call (codes "f") [])) depth first_state 3 []) ≡ came
+
+-- the alternative stands one deeper than the call, and past the greatest depth it takes its unit and throws
+abbrev pub DeepestCall : FileMap → Type 0
+DeepestCall files = CallAt files 999999 (done (Val empty_tuple) 0 []) × CallAt files 1000000 (done (Thr stack_overflow) 1 [])

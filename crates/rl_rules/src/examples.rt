@@ -1,7 +1,7 @@
 //! Small programs, evaluated.
 
 ghost use Rattle.rl_base.specs.Holds.{FileMap};
-ghost use Rattle.rl_rules.specs.Examples.{OneLine, FinallyAfterReturn, FinallyThrows, Counting, WithoutValue, OutOfRange, FallingBack, LeavingLoop, Handled, FinallyAtACut, NextAlternative, FalseCondition, ThreeElements, Reducing, TakenBack, FixedAtStart, Divided, FalseUnderMember, OtherAlternative};
+ghost use Rattle.rl_rules.specs.Examples.{OneLine, FinallyAfterReturn, FinallyThrows, Counting, WithoutValue, OutOfRange, FallingBack, LeavingLoop, Handled, FinallyAtACut, NextAlternative, FalseCondition, ThreeElements, Reducing, TakenBack, FixedAtStart, Divided, FalseUnderMember, OtherAlternative, TestWithoutValue, SecondHandler, DeepestCall};
 
 /// A program of one line takes five units, and prints nothing with four.
 pub fn one_line()
@@ -96,4 +96,19 @@ pub fn false_under_member()
 /// An alternative that does not take the arguments leads to the next.
 pub fn other_alternative()
     ensures { (files : FileMap) → OtherAlternative files }
+{}
+
+/// A pattern that tests a global without a value throws.
+pub fn test_without_value()
+    ensures { (files : FileMap) → TestWithoutValue files }
+{}
+
+/// The first handler that takes the exception is used.
+pub fn second_handler()
+    ensures { (files : FileMap) → SecondHandler files }
+{}
+
+/// An alternative stands one deeper than its call, and past the greatest depth it throws.
+pub fn deepest_call()
+    ensures { (files : FileMap) → DeepestCall files }
 {}

@@ -1,10 +1,9 @@
 -- What holds of walks.
-use Rattle.std.specs.Prelude.{◌≡◌, ⊤, ℕ, List, [], ◌∷◌, ◌++◌}
+use Rattle.std.specs.Prelude.{◌≡◌, ⊤, List, [], ◌∷◌, ◌++◌}
 use Rattle.rl_syntax.specs.declared.operator.Strategy.{Strategy}
-use Rattle.rl_syntax.specs.declared.operator.Strategy.TheVariants.{TopDownBreak, BottomUpBreak}
 use Rattle.rl_types.specs.Declarations.{Declarations}
 use Rattle.rl_value.specs.Plain.{Plain}
-use Rattle.rl_visit.specs.Walk.{Answer, no, kept, changed, Position, Walked, ask, walk}
+use Rattle.rl_visit.specs.Walk.{Answer, no, kept, changed, Position, ask, walk}
 
 -- something served the node
 abbrev pub IsServed : Answer → Type 0

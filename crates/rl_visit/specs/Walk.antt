@@ -1,12 +1,11 @@
 -- A walk over the nodes of a value in the order of a strategy, by lists of answers.
-use Rattle.std.specs.Prelude.{ℕ, zero, suc, ◌+◌, Bool, true, false, ◌||◌, ◌&&◌, if◌then◌else◌, nat_le, ◌^◌, List, [], ◌∷◌, ◌++◌, length, Option, Some, None, bytes_eq}
+use Rattle.std.specs.Prelude.{ℕ, zero, suc, Bool, true, false, ◌||◌, ◌&&◌, if◌then◌else◌, nat_le, ◌^◌, List, [], ◌∷◌, ◌++◌, length, Option, Some, None, bytes_eq}
 use Rattle.rl_syntax.specs.declared.operator.Strategy.{Strategy}
 use Rattle.rl_syntax.specs.declared.operator.Strategy.TheVariants.{Innermost, Outermost, TopDown, TopDownBreak, BottomUp, BottomUpBreak}
 use Rattle.rl_value.specs.Plain.{Plain, node, tree, plain_size, plain_height}
 use Rattle.rl_value.specs.Kids.{kids as kids_of, renew}
 use Rattle.rl_value.specs.Laws.{plain_eq}
 use Rattle.rl_types.specs.PlainType.{PlainType}
-use Rattle.rl_types.specs.PlainType as t
 use Rattle.rl_types.specs.Declarations.{Declarations, Constructor, constructor}
 use Rattle.rl_types.specs.Types.{has}
 
