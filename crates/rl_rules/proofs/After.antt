@@ -1,18 +1,17 @@
 -- A rule that goes on after another one, and what follows from it for members and `finally`.
-use Rattle.std.proofs.Common.{◌≡◌, ℕ, zero, suc, ◌+◌, Bool, true, false, List, [], ◌∷◌, ◌++◌, Option, Some, None, refl, sym, ◌∙◌, ap, subst}
+use Rattle.std.proofs.Common.{◌≡◌, ℕ, zero, suc, ◌+◌, true, false, List, [], ◌∷◌, ◌++◌, Some, None, refl, sym, ◌∙◌, ap, subst}
 use Rattle.rl_base.specs.Holds.{FileMap, file_at}
 use Rattle.rl_match.specs.Bindings.{Binding}
-use Rattle.rl_syntax.specs.declared.statement.Handler.{Handler}
 use Rattle.rl_syntax.specs.declared.statement.Stat.{Stat}
 use Rattle.rl_rules.specs.Evaluation.{Evaluation, Ran, Done, Cut, on_done, with_unit, run_by}
-use Rattle.rl_rules.specs.Exceptions.{try, handled, finally, finished}
+use Rattle.rl_rules.specs.Exceptions.{handled, finally, finished}
 use Rattle.rl_rules.specs.Form.{statement}
 use Rattle.rl_rules.specs.Laws.{IsAbandoned, AbandonedIsTakenBack, MissLeavesState, FinallyIsUsedOnce, end_with}
-use Rattle.rl_rules.specs.Members.{members, under_member, end_of_members}
+use Rattle.rl_rules.specs.Members.{members, under_member}
 use Rattle.rl_rules.specs.Parts.{used}
 use Rattle.rl_rules.specs.Program.{Program}
 use Rattle.rl_rules.specs.Rule.{Outcome, Val, Ret, Brk, Cnt, Fail, Ins, Thr, Miss, Kept, Stop, Rule, Give, Use, Take, Print, Read, after}
-use Rattle.rl_rules.specs.Scopes.{scoped, leave_scope}
+use Rattle.rl_rules.specs.Scopes.{scoped}
 use Rattle.rl_rules.specs.State.{State, declare_all, open_scope, close_scope}
 
 on_done-on_done : (o : Ran) (f g : Outcome → State → ℕ → List ℕ → Ran) → on_done (on_done o f) g ≡ on_done o (λ r s n t. on_done (f r s n t) g)

@@ -1,5 +1,5 @@
 -- What was printed stays printed.
-use Rattle.std.proofs.Common.{◌≡◌, ℕ, zero, suc, ◌+◌, ◌*◌, ◌≤◌, List, [], ◌∷◌, ◌++◌, refl, sym, ◌∙◌, ap, arith, append_assoc, append-nil}
+use Rattle.std.proofs.Common.{ℕ, zero, suc, ◌+◌, ◌*◌, List, [], ◌++◌, refl, sym, ◌∙◌, ap, append_assoc, append-nil}
 use Rattle.rl_base.specs.Holds.{FileMap, file_at}
 use Rattle.rl_rules.specs.Evaluation.{Evaluation, Ran, Done, Cut, on_done, with_unit, entering, run_by, eval_within, eval, printed}
 use Rattle.rl_rules.specs.Form.{Form, expression, statement, alternative, node, turn}

@@ -1,5 +1,5 @@
 -- In each turn a unit is taken before the next turn.
-use Rattle.std.proofs.Common.{ℕ, ◌+◌, Bool, true, false, List, [], ◌∷◌, Option, Some, None, if◌then◌else◌, flat_map}
+use Rattle.std.proofs.Common.{ℕ, ◌+◌, Bool, true, false, List, [], ◌∷◌, Option, if◌then◌else◌, flat_map}
 use Rattle.std.specs.Bool.{⊤}
 use Rattle.rl_syntax.specs.declared.expression.Exp.{Exp, out-Exp}
 use Rattle.rl_syntax.specs.declared.expression.Exp.TheOpen as e
@@ -19,7 +19,7 @@ use Rattle.rl_rules.specs.Rule.{Outcome, Rule, Give, Use, Take, Print, Read, aft
 use Rattle.rl_rules.specs.Rules.{rule_of, rule_of_turn, entered}
 use Rattle.rl_rules.specs.Scopes.{scoped, leave_scope}
 use Rattle.rl_rules.specs.State.{State, open_scope}
-use Rattle.rl_rules.specs.Visits.{visit_at, visited}
+use Rattle.rl_rules.specs.Visits.{visit_at}
 
 abbrev pub IsNoTurn : Form → Type 0
 IsNoTurn (turn w) = ⊥

@@ -1,5 +1,5 @@
 -- A budget only cuts: with more units what is done is done alike, with so many more left, and what was cut goes on.
-use Rattle.std.proofs.Common.{◌≡◌, ℕ, zero, suc, ◌+◌, ◌*◌, ◌≤◌, List, ◌++◌, refl, sym, ◌∙◌, ap, subst, arith}
+use Rattle.std.proofs.Common.{◌≡◌, ℕ, zero, suc, ◌+◌, ◌*◌, ◌≤◌, List, ◌++◌, refl, arith}
 use Rattle.rl_base.specs.Holds.{FileMap, file_at}
 use Rattle.rl_rules.specs.Evaluation.{Evaluation, Ran, Done, Cut, on_done, with_unit, entering, run_by, eval_within, eval, printed}
 use Rattle.rl_rules.specs.Form.{Form, expression, statement, alternative, node, turn}

@@ -1,5 +1,5 @@
 -- Laws of evaluation, whatever the rules say.
-use Rattle.std.proofs.Common.{◌≡◌, ℕ, zero, suc, ◌+◌, ◌*◌, ◌≤◌, List, ◌++◌, Option, refl, sym, ◌∙◌, ap, arith}
+use Rattle.std.proofs.Common.{◌≡◌, ℕ, zero, suc, ◌+◌, ◌*◌, ◌≤◌, List, ◌++◌, refl, sym, ◌∙◌, ap, arith}
 use Rattle.rl_base.specs.Holds.{FileMap, file_at}
 use Rattle.rl_rules.specs.Evaluation.{Evaluation, Ran, Done, Cut, on_done, with_unit, entering, run_by, eval_within, eval}
 use Rattle.rl_rules.specs.Form.{Form, expression, statement, alternative, node, Turn, turn}

@@ -1,5 +1,5 @@
 -- Declarations and assignments.
-use Rattle.std.specs.Prelude.{ℕ, ◌==◌, if◌then◌else◌, List, [], ◌∷◌, ◌++◌, length, Option, Some, None}
+use Rattle.std.specs.Prelude.{ℕ, ◌==◌, if◌then◌else◌, List, [], ◌∷◌, ◌++◌, length}
 use Rattle.rl_access.specs.Changes.{with_subscript_of, with_field_of}
 use Rattle.rl_access.specs.Elements.{subscript_of}
 use Rattle.rl_exception.specs.Answer.{Answer, Gives, Throws}

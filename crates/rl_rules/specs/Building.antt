@@ -1,12 +1,11 @@
 -- Small programs, built by hand for the examples.
-use Rattle.std.specs.Prelude.{ℕ, ℤ, pos, Bool, true, false, List, [], ◌∷◌, Option, Some, None, codes}
+use Rattle.std.specs.Prelude.{ℕ, pos, Bool, true, false, List, [], ◌∷◌, Option, Some, None, codes}
 use Rattle.rl_base.specs.declared.place.Place.{Place}
 use Rattle.rl_base.specs.Holds.{FileMap}
 use Rattle.rl_exception.specs.Answer.{Gives}
-use Rattle.rl_syntax.specs.declared.declaration.Body.TheVariants.{Statements, Value}
+use Rattle.rl_syntax.specs.declared.declaration.Body.TheVariants.{Statements}
 use Rattle.rl_syntax.specs.declared.declaration.Decl.{Decl}
 use Rattle.rl_syntax.specs.declared.declaration.Decl.TheVariants as d
-use Rattle.rl_syntax.specs.declared.declaration.Function.{Function}
 use Rattle.rl_syntax.specs.declared.declaration.Modifier.{Modifier}
 use Rattle.rl_syntax.specs.declared.declaration.Modifier.TheVariants.{Default}
 use Rattle.rl_syntax.specs.declared.expression.Exp.{Exp}
@@ -14,7 +13,6 @@ use Rattle.rl_syntax.specs.declared.expression.Exp.TheVariants as x
 use Rattle.rl_syntax.specs.declared.expression.Suffix.TheVariants as u
 use Rattle.rl_syntax.specs.declared.identifier.Identifier.{Identifier}
 use Rattle.rl_syntax.specs.declared.identifier.PatternVariable.{PatternVariable}
-use Rattle.rl_syntax.specs.declared.module.Module.{Module}
 use Rattle.rl_syntax.specs.declared.operator.Assignment.TheVariants as a
 use Rattle.rl_syntax.specs.declared.operator.Comparison.TheVariants as c
 use Rattle.rl_syntax.specs.declared.operator.SumOperator.TheVariants as o
@@ -31,8 +29,7 @@ use Rattle.rl_syntax.specs.declared.statement.Stat.{Stat}
 use Rattle.rl_syntax.specs.declared.statement.Stat.TheVariants as t
 use Rattle.rl_syntax.specs.declared.ty.Ty.{Ty}
 use Rattle.rl_syntax.specs.declared.ty.Ty.TheVariants as ty
-use Rattle.rl_types.specs.Declarations.{Constructor, Declarations}
-use Rattle.rl_types.specs.PlainType as plain
+use Rattle.rl_types.specs.Declarations.{Constructor}
 use Rattle.rl_value.specs.Plain.{empty_tuple}
 use Rattle.rl_rules.specs.Evaluation.{Ran, Done, Cut}
 use Rattle.rl_rules.specs.Program.{Program}

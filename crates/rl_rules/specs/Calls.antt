@@ -1,5 +1,5 @@
 -- Calls of constructors, functions and library functions.
-use Rattle.std.specs.Prelude.{ℕ, ◌+◌, ◌==◌, ◌&&◌, not, Bool, true, false, if◌then◌else◌, List, [], ◌∷◌, ◌++◌, length, filter, Option, Some, None, is_some, bytes_eq}
+use Rattle.std.specs.Prelude.{ℕ, ◌+◌, ◌==◌, ◌&&◌, not, Bool, true, false, if◌then◌else◌, List, [], ◌∷◌, ◌++◌, length, filter, Option, Some, is_some, bytes_eq}
 use Rattle.std.specs.List.{list_any}
 use Rattle.rl_exception.specs.Exceptions.{call_failed, no_return}
 use Rattle.rl_match.specs.Bindings.{joined_bindings}
@@ -8,7 +8,7 @@ use Rattle.rl_syntax.specs.declared.declaration.Body.{Body}
 use Rattle.rl_syntax.specs.declared.declaration.Body.TheVariants.{Value, Statements}
 use Rattle.rl_syntax.specs.declared.declaration.Function.{Function}
 use Rattle.rl_syntax.specs.declared.declaration.Modifier.{Modifier}
-use Rattle.rl_syntax.specs.declared.declaration.Modifier.TheVariants.{Default, Test}
+use Rattle.rl_syntax.specs.declared.declaration.Modifier.TheVariants.{Default}
 use Rattle.rl_syntax.specs.declared.expression.Exp.{Exp, out-Exp}
 use Rattle.rl_syntax.specs.declared.expression.Exp.TheOpen as e
 use Rattle.rl_syntax.specs.declared.expression.Suffix.{Suffix}
@@ -26,7 +26,7 @@ use Rattle.rl_rules.specs.Form.{alternative}
 use Rattle.rl_rules.specs.LibraryCalls.{SortArgument, no_sort, sort, start_sort, library_call}
 use Rattle.rl_rules.specs.Literals.{literal}
 use Rattle.rl_rules.specs.Members.{members, on_tested}
-use Rattle.rl_rules.specs.Parts.{bare, part, raise}
+use Rattle.rl_rules.specs.Parts.{part, raise}
 use Rattle.rl_rules.specs.Program.{Program, context}
 use Rattle.rl_rules.specs.Rule.{Outcome, Val, Ret, Miss, Fail, Rule, Give, Use, after, give, done}
 use Rattle.rl_rules.specs.Scopes.{statements}

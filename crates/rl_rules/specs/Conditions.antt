@@ -1,7 +1,7 @@
 -- Lists of conditions.
-use Rattle.std.specs.Prelude.{ℕ, zero, suc, ◌+◌, Bool, true, false, List, [], ◌∷◌, ◌++◌, flat_map, Option, Some, None}
+use Rattle.std.specs.Prelude.{ℕ, zero, suc, ◌+◌, true, false, List, [], ◌∷◌, flat_map, Option, Some, None}
 use Rattle.rl_exception.specs.Exceptions.{wrong_kind}
-use Rattle.rl_match.specs.Bindings.{Binding, bindings}
+use Rattle.rl_match.specs.Bindings.{bindings}
 use Rattle.rl_syntax.specs.declared.expression.Exp.{Exp, out-Exp}
 use Rattle.rl_syntax.specs.declared.expression.Exp.TheOpen as e
 use Rattle.rl_syntax.specs.declared.expression.Suffix.{Suffix}
@@ -14,7 +14,7 @@ use Rattle.rl_rules.specs.Form.{expression}
 use Rattle.rl_rules.specs.Members.{members, on_tested}
 use Rattle.rl_rules.specs.Parts.{greatest_height, nested, part}
 use Rattle.rl_rules.specs.Program.{Program, context}
-use Rattle.rl_rules.specs.Rule.{Outcome, Val, Miss, Kept, Rule, Give, Use, after, on_value, throw, give, done}
+use Rattle.rl_rules.specs.Rule.{Outcome, Val, Miss, Kept, Rule, Give, Use, after, on_value, throw, give}
 use Rattle.rl_rules.specs.State.{State}
 
 -- Which conditions a list has: `a && b` in it is two conditions, and parentheses count for nothing.

@@ -1,5 +1,5 @@
 -- Small programs with what they print, how they end, and the units that are left.
-use Rattle.std.specs.Prelude.{◌≡◌, ℕ, pos, true, false, List, [], ◌∷◌, ◌^◌, ◌-◌, codes}
+use Rattle.std.specs.Prelude.{◌≡◌, ℕ, pos, true, false, [], ◌∷◌, codes}
 use Rattle.rl_base.specs.Holds.{FileMap}
 use Rattle.rl_exception.specs.Exceptions.{uninitialized_variable, index_out_of_bounds, stack_overflow}
 use Rattle.rl_rules.specs.Building.{main, program, function, default_function, void_type, int_type, bool_type, print_line, text, truth, run, done, cut, block, increase, variable, less, declare, assign, finally, catching, trying, catch, only, Came, came_of, return, throw, fail, break, continue, nothing, repeat, repeat_after, provided, number, list, set, pair, plus, it, reduce, matches, enumerate, each, switch, on, new, test, rest, one, number_pattern, text_pattern, list_pattern, set_pattern, pair_pattern, subscript, fallback, global, call}

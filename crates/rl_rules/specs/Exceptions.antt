@@ -9,11 +9,10 @@ use Rattle.rl_syntax.specs.declared.statement.Stat.{Stat}
 use Rattle.rl_value.specs.Plain.{Plain, node, items_of}
 use Rattle.rl_rules.specs.Cases.{on_miss}
 use Rattle.rl_rules.specs.Conditions.{members_of}
-use Rattle.rl_rules.specs.Form.{expression}
 use Rattle.rl_rules.specs.Members.{members, empty_member}
-use Rattle.rl_rules.specs.Parts.{bare, part, used}
+use Rattle.rl_rules.specs.Parts.{part, used}
 use Rattle.rl_rules.specs.Program.{Program}
-use Rattle.rl_rules.specs.Rule.{Outcome, Val, Thr, Miss, Rule, Give, Use, after, give, throw}
+use Rattle.rl_rules.specs.Rule.{Outcome, Val, Thr, Rule, Give, after, give, throw}
 use Rattle.rl_rules.specs.Scopes.{scoped}
 use Rattle.rl_rules.specs.State.{State}
 

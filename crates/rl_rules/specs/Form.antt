@@ -1,5 +1,5 @@
 -- What rules use.
-use Rattle.std.specs.Prelude.{ℕ, List}
+use Rattle.std.specs.Prelude.{List}
 use Rattle.rl_value.specs.Plain.{Plain}
 use Rattle.rl_syntax.specs.declared.expression.Exp.{Exp}
 use Rattle.rl_syntax.specs.declared.identifier.Identifier.{Identifier}

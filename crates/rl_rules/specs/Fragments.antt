@@ -1,5 +1,5 @@
 -- Fragments of concrete syntax, as expressions.
-use Rattle.std.specs.Prelude.{ℕ, List, [], ◌∷◌, ◌++◌, Option, Some, None}
+use Rattle.std.specs.Prelude.{List, [], ◌∷◌, ◌++◌, Option, Some, None}
 use Rattle.rl_exception.specs.Exceptions.{wrong_kind}
 use Rattle.rl_match.specs.Tests.{in_holes}
 use Rattle.rl_syntax.specs.declared.fragment.Concrete.{Concrete}

@@ -1,12 +1,12 @@
 -- What holds of all evaluations.
-use Rattle.std.specs.Prelude.{◌≡◌, ℕ, suc, ◌+◌, ◌≤◌, ⊤, Bool, false, List, ◌∷◌, ◌++◌, Option, Some, None}
+use Rattle.std.specs.Prelude.{◌≡◌, ℕ, suc, ◌+◌, ◌≤◌, ⊤, Bool, false, List, ◌∷◌, ◌++◌, Some, None}
 use Rattle.rl_base.specs.Holds.{FileMap}
 use Rattle.rl_match.specs.Bindings.{Binding}
 use Rattle.rl_syntax.specs.declared.statement.Handler.{Handler}
 use Rattle.rl_syntax.specs.declared.statement.Stat.{Stat}
 use Rattle.rl_rules.specs.Evaluation.{Evaluation, Ran, Done, Cut, on_done, run_by, eval, printed}
 use Rattle.rl_rules.specs.Exceptions.{try}
-use Rattle.rl_rules.specs.Form.{Form, expression, statement, alternative, node, Turn, turn}
+use Rattle.rl_rules.specs.Form.{Form, statement, Turn, turn}
 use Rattle.rl_rules.specs.Members.{members}
 use Rattle.rl_rules.specs.Program.{Program}
 use Rattle.rl_rules.specs.Rule.{Outcome, Val, Miss, Fail, Rule}

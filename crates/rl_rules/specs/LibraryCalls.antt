@@ -5,7 +5,7 @@ use Rattle.rl_base.specs.Decode.{text_of}
 use Rattle.rl_exception.specs.Answer.{Answer}
 use Rattle.rl_exception.specs.Exceptions.{wrong_kind, path_not_found, io_exception}
 use Rattle.rl_print.specs.Printed.{shown_of}
-use Rattle.rl_value.specs.declared.shape.Scheme.TheVariants.{Cwd, Unknown}
+use Rattle.rl_value.specs.declared.shape.Scheme.TheVariants.{Cwd}
 use Rattle.rl_value.specs.Plain.{Plain, text, location}
 use Rattle.rl_rules.specs.Literals.{literal}
 use Rattle.rl_rules.specs.Parts.{raise}

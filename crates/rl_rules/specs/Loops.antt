@@ -1,8 +1,8 @@
 -- Conditionals and loops.
-use Rattle.std.specs.Prelude.{ℕ, ◌+◌, Bool, true, false, List, Option, Some, None, if◌then◌else◌}
+use Rattle.std.specs.Prelude.{ℕ, Bool, List, Option, Some, None, if◌then◌else◌}
 use Rattle.rl_syntax.specs.declared.expression.Exp.{Exp}
 use Rattle.rl_syntax.specs.declared.statement.Stat.{Stat}
-use Rattle.rl_value.specs.Plain.{Plain, empty_tuple}
+use Rattle.rl_value.specs.Plain.{Plain}
 use Rattle.rl_rules.specs.Collections.{list_of}
 use Rattle.rl_rules.specs.Conditions.{where_all, for_each, on_truth}
 use Rattle.rl_rules.specs.Form.{Turn, turn, while, do_while}

@@ -1,15 +1,12 @@
 -- Going through members: bindings that are taken one after another.
-use Rattle.std.specs.Prelude.{ℕ, nat_eq, if◌then◌else◌, not, Bool, true, false, List, [], ◌∷◌, ◌++◌, map, filter, flat_map, Option, Some, None, is_none}
-use Rattle.std.specs.List.{list_any}
+use Rattle.std.specs.Prelude.{ℕ, if◌then◌else◌, Bool, true, List, [], ◌∷◌, Option, Some, None, is_none}
 use Rattle.rl_exception.specs.Exceptions.{uninitialized_variable}
-use Rattle.rl_match.specs.Bindings.{Binding, Context}
+use Rattle.rl_match.specs.Bindings.{Binding}
 use Rattle.rl_match.specs.Tests.{outside_tests}
 use Rattle.rl_syntax.specs.declared.identifier.PatternVariable.{PatternVariable}
 use Rattle.rl_syntax.specs.declared.pattern.Pattern.{Pattern}
-use Rattle.rl_value.specs.Plain.{Plain}
 use Rattle.rl_rules.specs.Parts.{raise}
-use Rattle.rl_rules.specs.Program.{Program, context}
-use Rattle.rl_rules.specs.Rule.{Outcome, Val, Miss, Fail, Kept, Rule, Give, Take, after}
+use Rattle.rl_rules.specs.Rule.{Outcome, Miss, Fail, Kept, Rule, Give, Take, after}
 use Rattle.rl_rules.specs.State.{State, read, declare_all}
 
 -- how what follows under a member ended: abandoned, kept, or with the result of the whole

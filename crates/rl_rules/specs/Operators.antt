@@ -1,5 +1,5 @@
 -- Operators, subscripts, slices, ranges and fields.
-use Rattle.std.specs.Prelude.{ℕ, suc, zero, ◌+◌, Bool, true, false, if◌then◌else◌, List, [], ◌∷◌, ◌++◌, Option, Some, None, bytes_eq, length}
+use Rattle.std.specs.Prelude.{ℕ, ◌+◌, Bool, true, false, if◌then◌else◌, List, [], ◌∷◌, Option, Some, None, bytes_eq, length}
 use Rattle.rl_access.specs.Elements.{subscript_of}
 use Rattle.rl_access.specs.Fields.{field_of}
 use Rattle.rl_access.specs.Ranges.{range_of}
@@ -32,7 +32,7 @@ use Rattle.rl_rules.specs.Form.{expression}
 use Rattle.rl_rules.specs.Members.{on_tested}
 use Rattle.rl_rules.specs.Parts.{bare, part, nested}
 use Rattle.rl_rules.specs.Program.{Program, context}
-use Rattle.rl_rules.specs.Rule.{Outcome, Rule, Give, Use, after, on_value, give, give_answer, throw}
+use Rattle.rl_rules.specs.Rule.{Rule, Give, Use, after, on_value, give, give_answer, throw}
 use Rattle.rl_rules.specs.State.{State}
 
 -- One operator.

@@ -9,8 +9,8 @@ use Rattle.rl_syntax.specs.declared.statement.Case.{Case}
 use Rattle.rl_syntax.specs.declared.statement.Handler.{Handler}
 use Rattle.rl_syntax.specs.declared.statement.Stat.{Stat}
 use Rattle.rl_value.specs.Plain.{Plain}
-use Rattle.rl_rules.specs.Form.{Form, expression, statement}
-use Rattle.rl_rules.specs.Rule.{Outcome, Rule, Give, Use, Take, value, throw, give_answer}
+use Rattle.rl_rules.specs.Form.{expression, statement}
+use Rattle.rl_rules.specs.Rule.{Rule, Give, Use, Take, value, throw, give_answer}
 use Rattle.rl_rules.specs.State.{State}
 
 -- the exception, where it fits

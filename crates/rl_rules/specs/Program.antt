@@ -1,6 +1,6 @@
 -- A program, as its rules see it.
-use Rattle.std.specs.Prelude.{ℕ, nat_eq, Bool, false, List, [], ◌++◌, map, Option}
-use Rattle.std.specs.List.{list_any, flat_map}
+use Rattle.std.specs.Prelude.{ℕ, nat_eq, Bool, false, List, Option}
+use Rattle.std.specs.List.{list_any}
 use Rattle.rl_exception.specs.Answer.{Answer}
 use Rattle.rl_match.specs.Bindings.{Context, Matching}
 use Rattle.rl_syntax.specs.declared.declaration.Decl.{Decl}
@@ -9,7 +9,7 @@ use Rattle.rl_syntax.specs.declared.fragment.Concrete.{Concrete}
 use Rattle.rl_syntax.specs.declared.module.Module.{Module}
 use Rattle.rl_syntax.specs.declared.ty.Ty.{Ty}
 use Rattle.rl_types.specs.Declarations.{Declarations}
-use Rattle.rl_types.specs.PlainType.{PlainType, plain_type}
+use Rattle.rl_types.specs.PlainType.{plain_type}
 use Rattle.rl_types.specs.Types.{has}
 use Rattle.rl_value.specs.Plain.{Plain}
 use Rattle.rl_rules.specs.State.{State, in_reach}

@@ -1,5 +1,5 @@
 -- The rule of each form.
-use Rattle.std.specs.Prelude.{ℕ, true, false, List, [], ◌∷◌, Option, Some, None}
+use Rattle.std.specs.Prelude.{ℕ, true, false}
 use Rattle.rl_exception.specs.Exceptions.{wrong_kind}
 use Rattle.rl_operators.specs.Arithmetic.{}
 use Rattle.rl_operators.specs.Comparison.{equal_of, not_equal_of}
@@ -9,17 +9,16 @@ use Rattle.rl_match.specs.Bindings.{location_of_literal}
 use Rattle.rl_syntax.specs.declared.expression.Exp.{Exp, out-Exp}
 use Rattle.rl_syntax.specs.declared.expression.Exp.TheOpen as e
 use Rattle.rl_syntax.specs.declared.expression.Suffix.{Suffix}
-use Rattle.rl_syntax.specs.declared.fragment.Concrete.{Concrete}
 use Rattle.rl_syntax.specs.declared.statement.Case.{Case}
 use Rattle.rl_syntax.specs.declared.statement.Handler.{Handler}
 use Rattle.rl_syntax.specs.declared.statement.Stat.{Stat, out-Stat}
-use Rattle.rl_value.specs.Plain.{Plain, bool, int, text}
+use Rattle.rl_value.specs.Plain.{bool, int, text}
 use Rattle.rl_rules.specs.Assignments.{declaration, tuple_assignment, assignment}
 use Rattle.rl_rules.specs.Calls.{alternative_rule, call}
 use Rattle.rl_rules.specs.Cases.{cases, insert, switch}
 use Rattle.rl_rules.specs.Collections.{list_by_elements, set_by_elements, map_by_entries, tuple_by_parts}
 use Rattle.rl_rules.specs.Comprehensions.{list_comprehension, set_comprehension, map_comprehension, reducer}
-use Rattle.rl_rules.specs.Conditions.{conditions, conditions_in, match_at, enumeration_at, truth_of, holds, where_all}
+use Rattle.rl_rules.specs.Conditions.{match_at, enumeration_at, truth_of, holds, where_all}
 use Rattle.rl_rules.specs.Exceptions.{try, fallback}
 use Rattle.rl_rules.specs.Form.{Form, expression, statement, alternative, node, Turn, turn, while, do_while, solve, visit}
 use Rattle.rl_rules.specs.Fragments.{fragment}
@@ -28,7 +27,7 @@ use Rattle.rl_rules.specs.Loops.{conditional, choice, for_loop, while_loop, whil
 use Rattle.rl_rules.specs.Operators as o
 use Rattle.rl_rules.specs.Parts.{limited, part}
 use Rattle.rl_rules.specs.Program.{Program}
-use Rattle.rl_rules.specs.Rule.{Outcome, Brk, Cnt, Fail, Rule, Give, after, done, give, throw}
+use Rattle.rl_rules.specs.Rule.{Brk, Cnt, Fail, Rule, Give, after, done, give, throw}
 use Rattle.rl_rules.specs.Scopes.{scoped, block}
 use Rattle.rl_rules.specs.Solving.{solving, solve_turn}
 use Rattle.rl_rules.specs.State.{State}

@@ -10,7 +10,7 @@ use Rattle.rl_rules.specs.Evaluation.{Ran, Done, Cut, run_by, eval}
 use Rattle.rl_rules.specs.Form.{expression}
 use Rattle.rl_rules.specs.Parts.{bare}
 use Rattle.rl_rules.specs.Program.{Program}
-use Rattle.rl_rules.specs.Rule.{Outcome, Val, Thr, Miss, Rule, Give, Use, on_value, on_answer, throw}
+use Rattle.rl_rules.specs.Rule.{Outcome, Val, Thr, Miss, Rule, Give, Use, on_value, on_answer}
 use Rattle.rl_rules.specs.State.{State, enter_call, leave_call, set_global}
 
 -- nothing has a value

@@ -1,6 +1,5 @@
 -- `solve`.
 use Rattle.std.specs.Prelude.{ℕ, ◌&&◌, Bool, true, false, if◌then◌else◌, List, [], ◌∷◌, map, Option, Some, None}
-use Rattle.rl_exception.specs.Exceptions.{uninitialized_variable}
 use Rattle.rl_syntax.specs.declared.identifier.Identifier.{Identifier}
 use Rattle.rl_syntax.specs.declared.statement.Stat.{Stat}
 use Rattle.rl_value.specs.Laws.{plain_eq}

@@ -1,5 +1,5 @@
 -- The state of a program that runs, but for what it printed.
-use Rattle.std.specs.Prelude.{ℕ, nat_eq, if◌then◌else◌, Bool, true, false, not, List, [], ◌∷◌, ◌++◌, Option, Some, None, is_some}
+use Rattle.std.specs.Prelude.{ℕ, nat_eq, if◌then◌else◌, Bool, true, false, List, [], ◌∷◌, ◌++◌, Option, Some, None, is_some}
 use Rattle.rl_value.specs.Plain.{Plain}
 
 -- finite maps from the numbers of variables to their values

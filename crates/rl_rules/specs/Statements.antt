@@ -3,7 +3,7 @@ use Rattle.std.specs.Prelude.{ℕ}
 use Rattle.rl_syntax.specs.declared.expression.Exp.{Exp}
 use Rattle.rl_value.specs.Plain.{Plain, empty_tuple}
 use Rattle.rl_rules.specs.Parts.{part}
-use Rattle.rl_rules.specs.Rule.{Outcome, Ret, Rule, Give, done, throw}
+use Rattle.rl_rules.specs.Rule.{Ret, Rule, Give, done, throw}
 use Rattle.rl_rules.specs.State.{State, append}
 
 -- the value is dropped
