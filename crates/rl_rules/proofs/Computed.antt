@@ -20,7 +20,7 @@ use Rattle.rl_syntax.specs.declared.ty.Ty.{out-Ty}
 use denote.Hole.Carrier.{out, shown, hidden}
 use Rattle.rl_rules.specs.Conditions.{conditions_in}
 use Rattle.rl_rules.specs.Evaluation.{eval, eval_within}
-use Rattle.rl_rules.specs.Examples.{OneLine, FinallyAfterReturn, FinallyThrows, Counting, WithoutValue, OutOfRange, FallingBack, LeavingLoop, Handled, FinallyAtACut, NextAlternative, FalseCondition, ThreeElements, Reducing, TakenBack, FixedAtStart, Divided, FalseUnderMember, OtherAlternative, TestWithoutValue, SecondHandler, DeepestCall}
+use Rattle.rl_rules.specs.Examples.{OneLine, FinallyAfterReturn, FinallyThrows, Counting, WithoutValue, OutOfRange, FallingBack, LeavingLoop, Handled, FinallyAtACut, NextAlternative, FalseCondition, ThreeElements, Reducing, TakenBack, FixedAtStart, Divided, FalseUnderMember, OtherAlternative, TestWithoutValue, SecondHandler, DeepestCall, Parsing}
 use Rattle.rl_rules.specs.Parts.{bare}
 use Rattle.rl_rules.specs.Rules.{entered, rule_of, rule_of_turn}
 use Rattle.rl_rules.specs.Run.{derivation}
@@ -117,3 +117,7 @@ second_handler files = refl
 pub deepest_call : (files : FileMap) → DeepestCall files
 unfolding computing
 deepest_call files = (refl, refl)
+
+pub parsing : (files : FileMap) → Parsing files
+unfolding computing
+parsing files = refl

@@ -4,3 +4,4 @@ pub mod Growth
 pub mod More
 pub mod Computed
 pub mod After
+pub mod Visited

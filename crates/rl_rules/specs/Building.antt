@@ -30,6 +30,7 @@ use Rattle.rl_syntax.specs.declared.statement.Stat.TheVariants as t
 use Rattle.rl_syntax.specs.declared.ty.Ty.{Ty}
 use Rattle.rl_syntax.specs.declared.ty.Ty.TheVariants as ty
 use Rattle.rl_types.specs.Declarations.{Constructor}
+use Rattle.rl_types.specs.PlainType.{PlainType}
 use Rattle.rl_value.specs.Plain.{empty_tuple}
 use Rattle.rl_rules.specs.Evaluation.{Ran, Done, Cut}
 use Rattle.rl_rules.specs.Program.{Program}
@@ -59,6 +60,10 @@ variable n = x.Variable here (name (codes "x") n)
 
 abbrev pub call : List ℕ → List Exp → Exp
 call function arguments = x.Call here (name function 0) arguments
+
+-- `#S`, as an argument
+abbrev pub sort_argument : List ℕ → Exp
+sort_argument sort = x.TypeName here (name sort 0)
 
 abbrev pub list : List Exp → Exp
 list xs = x.List here xs
@@ -253,6 +258,10 @@ program_with constructors declarations = record {
   };
   operations = record { closure = λ v. Gives v; reflexive_closure = λ v. Gives v; library = λ name. None };
 }
+
+-- a constructor of the data type T, with these fields
+abbrev pub constructor : List ℕ → List (List ℕ × PlainType) → Constructor
+constructor text fields = record { owner = codes "T"; name = text; fields = fields }
 
 abbrev pub program : List Decl → Program
 program = program_with []

@@ -2,12 +2,14 @@
 use Rattle.std.specs.Prelude.{◌≡◌, ℕ, pos, true, false, [], ◌∷◌, codes}
 use Rattle.rl_base.specs.Holds.{FileMap}
 use Rattle.rl_exception.specs.Exceptions.{uninitialized_variable, index_out_of_bounds, stack_overflow}
-use Rattle.rl_rules.specs.Building.{main, program, function, default_function, void_type, int_type, bool_type, print_line, text, truth, run, done, cut, block, increase, variable, less, declare, assign, finally, catching, trying, catch, only, Came, came_of, return, throw, fail, break, continue, nothing, repeat, repeat_after, provided, number, list, set, pair, plus, it, reduce, matches, enumerate, each, switch, on, new, test, rest, one, number_pattern, text_pattern, list_pattern, set_pattern, pair_pattern, subscript, fallback, global, call}
+use Rattle.rl_rules.specs.Building.{main, program, program_with, constructor, function, default_function, void_type, int_type, bool_type, print_line, text, truth, run, done, cut, block, increase, variable, less, declare, assign, finally, catching, trying, catch, only, Came, came_of, return, throw, fail, break, continue, nothing, repeat, repeat_after, provided, number, list, set, pair, plus, it, reduce, matches, enumerate, each, switch, on, new, test, rest, one, number_pattern, text_pattern, list_pattern, set_pattern, pair_pattern, subscript, fallback, global, call, sort_argument, visit, replace, constructor_pattern, named_type}
 use Rattle.rl_rules.specs.Evaluation.{eval}
 use Rattle.rl_rules.specs.Form.{expression}
 use Rattle.rl_rules.specs.Program.{Program}
 use Rattle.rl_rules.specs.Rule.{Val, Thr}
 use Rattle.rl_rules.specs.Run.{first_state}
+use Rattle.rl_syntax.specs.declared.operator.Strategy.TheVariants.{BottomUp}
+use Rattle.rl_types.specs.PlainType as plain
 use Rattle.rl_value.specs.Plain as v
 use Rattle.rl_value.specs.Plain.{empty_tuple}
 
@@ -251,3 +253,28 @@ CallAt files depth came = came_of (eval calling files (expression (call (codes "
 -- the alternative stands one deeper than the call, and past the greatest depth it takes its unit and throws
 abbrev pub DeepestCall : FileMap → Type 0
 DeepestCall files = CallAt files 999999 (done (Val empty_tuple) 0 []) × CallAt files 1000000 (done (Thr stack_overflow) 1 [])
+
+-- data T = parse(str s); void main() { println(parse(#S, "a")); println(parse("a")); }, where parsing gives the empty tuple
+abbrev pub parsing : Program
+parsing = program_with (constructor (codes "parse") ((codes "s", plain.str) ∷ []) ∷ []) (
+    function void_type (codes "main") [] (
+    print_line (call (codes "parse") (sort_argument (codes "S") ∷ text (codes "a") ∷ []))
+    ∷ print_line (call (codes "parse") (text (codes "a") ∷ []))
+    ∷ [])
+    ∷ [])
+
+-- `#S` costs nothing, but counts where a constructor with as many fields as there are arguments is looked for
+abbrev pub Parsing : FileMap → Type 0
+Parsing files = run parsing files 10 ≡ done (Val empty_tuple) 0 (codes "<>\nparse(\"a\")\n")
+
+-- data T = f(T t) | a(); void main() { println(visit (f(a())) { case f(x) => x }); }
+abbrev pub visiting : Program
+visiting = program_with (constructor (codes "f") ((codes "t", plain.named (codes "T")) ∷ []) ∷ constructor (codes "a") [] ∷ []) (
+    function void_type (codes "main") [] (
+    print_line (visit BottomUp (call (codes "f") (call (codes "a") [] ∷ [])) (replace (constructor_pattern (codes "f") (new 0 ∷ [])) (variable 0) ∷ []) (named_type (codes "T")))
+    ∷ [])
+    ∷ [])
+
+-- each node costs a unit, and where a case takes it those of the binding, of `insert` and of the value
+abbrev pub Visiting : FileMap → Type 0
+Visiting files = run visiting files 12 ≡ done (Val empty_tuple) 0 (codes "a()\n")

@@ -1,7 +1,7 @@
 //! Small programs, evaluated.
 
 ghost use Rattle.rl_base.specs.Holds.{FileMap};
-ghost use Rattle.rl_rules.specs.Examples.{OneLine, FinallyAfterReturn, FinallyThrows, Counting, WithoutValue, OutOfRange, FallingBack, LeavingLoop, Handled, FinallyAtACut, NextAlternative, FalseCondition, ThreeElements, Reducing, TakenBack, FixedAtStart, Divided, FalseUnderMember, OtherAlternative, TestWithoutValue, SecondHandler, DeepestCall};
+ghost use Rattle.rl_rules.specs.Examples.{OneLine, FinallyAfterReturn, FinallyThrows, Counting, WithoutValue, OutOfRange, FallingBack, LeavingLoop, Handled, FinallyAtACut, NextAlternative, FalseCondition, ThreeElements, Reducing, TakenBack, FixedAtStart, Divided, FalseUnderMember, OtherAlternative, TestWithoutValue, SecondHandler, DeepestCall, Parsing};
 
 /// A program of one line takes five units, and prints nothing with four.
 pub fn one_line()
@@ -111,4 +111,9 @@ pub fn second_handler()
 /// An alternative stands one deeper than its call, and past the greatest depth it throws.
 pub fn deepest_call()
     ensures { (files : FileMap) → DeepestCall files }
+{}
+
+/// A sort among the arguments is no value, but counts where a constructor is looked for.
+pub fn parsing()
+    ensures { (files : FileMap) → Parsing files }
 {}
