@@ -8,7 +8,9 @@ use Rattle.rl_rules.specs.Form.{expression}
 use Rattle.rl_rules.specs.Program.{Program}
 use Rattle.rl_rules.specs.Rule.{Val, Thr}
 use Rattle.rl_rules.specs.Run.{first_state}
-use Rattle.rl_syntax.specs.declared.operator.Strategy.TheVariants.{BottomUp}
+use Rattle.rl_syntax.specs.declared.operator.Strategy.TheVariants.{TopDown, TopDownBreak, BottomUp, BottomUpBreak, Innermost, Outermost}
+use Rattle.rl_syntax.specs.declared.operator.Strategy.{Strategy}
+use Rattle.rl_syntax.specs.declared.statement.Stat.{Stat}
 use Rattle.rl_types.specs.PlainType as plain
 use Rattle.rl_value.specs.Plain as v
 use Rattle.rl_value.specs.Plain.{empty_tuple}
@@ -278,3 +280,20 @@ visiting = program_with (constructor (codes "f") ((codes "t", plain.named (codes
 -- each node costs a unit, and where a case takes it those of the binding, of `insert` and of the value
 abbrev pub Visiting : FileMap → Type 0
 Visiting files = run visiting files 12 ≡ done (Val empty_tuple) 0 (codes "a()\n")
+
+-- println(strategy visit (f(f(a()))) { case f(x) => x });
+abbrev pub print_visit : Strategy → Stat
+print_visit strategy = print_line (
+    visit strategy (call (codes "f") (call (codes "f") (call (codes "a") [] ∷ []) ∷ [])) (replace (constructor_pattern (codes "f") (new 0 ∷ [])) (variable 0) ∷ []) (named_type (codes "T")))
+
+-- data T = f(T t) | a(); void main() { the six visits }
+abbrev pub six_strategies : Program
+six_strategies = program_with (constructor (codes "f") ((codes "t", plain.named (codes "T")) ∷ []) ∷ constructor (codes "a") [] ∷ []) (
+    function void_type (codes "main") [] (
+    print_visit TopDown ∷ print_visit TopDownBreak ∷ print_visit BottomUp ∷ print_visit BottomUpBreak ∷ print_visit Innermost ∷ print_visit Outermost
+    ∷ [])
+    ∷ [])
+
+-- the visits take 5, 4, 9, 5, 10 and 10 units beside six each for the statement and the parts of its expression
+abbrev pub SixStrategies : FileMap → Type 0
+SixStrategies files = run six_strategies files 81 ≡ done (Val empty_tuple) 0 (codes "f(a())\nf(a())\na()\nf(a())\na()\na()\n")

@@ -1,7 +1,7 @@
 //! Small programs, evaluated.
 
 ghost use Rattle.rl_base.specs.Holds.{FileMap};
-ghost use Rattle.rl_rules.specs.Examples.{OneLine, FinallyAfterReturn, FinallyThrows, Counting, WithoutValue, OutOfRange, FallingBack, LeavingLoop, Handled, FinallyAtACut, NextAlternative, FalseCondition, ThreeElements, Reducing, TakenBack, FixedAtStart, Divided, FalseUnderMember, OtherAlternative, TestWithoutValue, SecondHandler, DeepestCall, Parsing};
+ghost use Rattle.rl_rules.specs.Examples.{OneLine, FinallyAfterReturn, FinallyThrows, Counting, WithoutValue, OutOfRange, FallingBack, LeavingLoop, Handled, FinallyAtACut, NextAlternative, FalseCondition, ThreeElements, Reducing, TakenBack, FixedAtStart, Divided, FalseUnderMember, OtherAlternative, TestWithoutValue, SecondHandler, DeepestCall, Parsing, Visiting, SixStrategies};
 
 /// A program of one line takes five units, and prints nothing with four.
 pub fn one_line()
@@ -116,4 +116,14 @@ pub fn deepest_call()
 /// A sort among the arguments is no value, but counts where a constructor is looked for.
 pub fn parsing()
     ensures { (files : FileMap) → Parsing files }
+{}
+
+/// A visit costs a unit for each node, beside those of the cases that are taken.
+pub fn visiting()
+    ensures { (files : FileMap) → Visiting files }
+{}
+
+/// What the six strategies print of `f(f(a()))` where `f(x)` becomes `x`.
+pub fn six_strategies()
+    ensures { (files : FileMap) → SixStrategies files }
 {}
