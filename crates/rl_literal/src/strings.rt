@@ -1,0 +1,58 @@
+//! Strings.
+
+ghost use Rattle.std.specs.Prelude.{◌≡◌, ◌++◌, IfOk, OnOk, encode_utf8_all};
+ghost use Rattle.std.specs.Str.{chars};
+ghost use Rattle.std.specs.String.{string_bytes};
+ghost use Rattle.rl_literal.specs.Strings.{inner, string_in, unescaped};
+
+use crate::escape::{escape_length, escaped};
+use std::alloc::{AllocError, Global};
+
+// What is between the first and the last character.
+fn inner(text: &[char]) -> &[char]
+    ensures { result.now ≡ inner text.now }
+{
+    if text.len() < 2 {
+        &[]
+    } else {
+        &text[1..text.len() - 1]
+    }
+}
+
+// Adds the text, its escapes read.
+fn add_unescaped(text: &[char], out: &mut String) -> Result<(), AllocError>
+    ensures { OnOk result (string_bytes out.new ≡ string_bytes out.old ++ encode_utf8_all (unescaped text.now)) }
+{
+    let mut rest = text;
+    let mut pass = 0;
+    'characters: while let Some((c, tail)) = rest.split_first() {
+        if pass > 0 {
+            pass -= 1;
+        } else if *c == '\\' {
+            out.push(escaped(tail))?;
+            pass = escape_length(tail);
+        } else {
+            out.push(*c)?;
+        }
+        rest = tail;
+    }
+    Ok(())
+}
+
+// The characters of the token.
+fn characters(alloc: Global, token: &str) -> Result<Vec<char>, AllocError>
+    ensures { IfOk result (λ characters. characters.items ≡ chars token.now) }
+{
+    token.chars().collect(alloc)
+}
+
+/// The text of a string, or of a piece of one, without the marks around it.
+#[tactic(auto, unfolding(crate::specs::Strings::string_in))]
+pub fn string(alloc: Global, token: &str) -> Result<String, AllocError>
+    ensures { IfOk result (λ text. string_bytes text ≡ string_in token.now) }
+{
+    let characters = characters(alloc, token)?;
+    let mut text = String::new(alloc);
+    add_unescaped(inner(&characters), &mut text)?;
+    Ok(text)
+}
