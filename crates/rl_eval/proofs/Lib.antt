@@ -1,6 +1,5 @@
 pub mod Laws
+pub mod PreparationLemmas
 pub mod Growth
 pub mod StepLemmas
-pub mod TokenLemmas
-pub mod SourceLemmas
 pub mod Whole

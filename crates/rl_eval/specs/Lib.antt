@@ -1,6 +1,4 @@
-pub mod Tokens
-pub mod NextToken
-pub mod Source
+pub mod Preparation
 pub mod Rule
 pub mod Rules
 pub mod Evaluation

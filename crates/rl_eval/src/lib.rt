@@ -5,10 +5,11 @@ mod form;
 mod frame;
 mod literal;
 mod machine;
+mod preparation;
 mod program;
 mod stack;
 mod steps;
-mod token;
 
 pub use machine::{End, Machine};
-pub use program::{Program, is_name};
+pub use preparation::{PrepareEnd, prepare};
+pub use program::Program;

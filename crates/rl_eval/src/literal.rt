@@ -1,36 +1,35 @@
-ghost use Rattle.std.specs.Prelude.{◌≡◌, ◌≤◌, [], ◌∷◌, ◌++◌, length, IfOk};
+ghost use Rattle.std.specs.Prelude.{◌≡◌, ◌<◌, ◌^◌, [], ◌∷◌, ◌++◌, length, IfOk};
 ghost use Rattle.rl_value.specs.Plain.{text};
 ghost use Rattle.rl_eval.specs.Rules.{line_of};
 
+use rl_grammar::Name;
 use rl_value::{BuildEnd, Value};
 use std::alloc::{AllocError, Global};
 use std::marker::Model;
-use std::rc::RcStr;
 
-/// The text of a string literal, at most 1,000 bytes, which its holders share.
+/// The text of a string literal, fewer than 2^24 bytes, which its holders share.
 #[derive(Debug, Drop)]
 pub struct Literal {
-    text: RcStr,
+    text: Name,
 }
 
 impl Model for Literal {
-    ghost use Rattle.std.specs.Prelude.{ℕ, List, length, ◌≤◌};
-    ghost use Rattle.std.specs.Rc.{rc_str_bytes};
+    ghost use Rattle.std.specs.Prelude.{ℕ, ◌^◌, ◌<◌, List, length};
 
     ghost Value = { List ℕ };
 
-    ghost view = { λ literal. rc_str_bytes literal.text };
+    ghost view = { λ literal. literal.text };
 
-    ghost invariant = { λ literal. length (rc_str_bytes literal.text) ≤ 1000 };
+    ghost invariant = { λ literal. length literal.text < 2 ^ 24 };
 }
 
 impl Literal {
-    pub fn new(alloc: Global, text: &str) -> Result<Literal, AllocError>
-        requires { length text.now ≤ 1000 }
+    pub fn new(text: &Name) -> Result<Literal, AllocError>
+        requires { length text.now < 2 ^ 24 }
         ensures { IfOk result (λ literal. literal ≡ text.now) }
     {
         Ok(Literal {
-            text: RcStr::from_str(alloc, text)?,
+            text: text.share()?,
         })
     }
 
@@ -39,15 +38,8 @@ impl Literal {
         ensures { IfOk result (λ literal. literal ≡ self.now) }
     {
         Ok(Literal {
-            text: self.text.clone()?,
+            text: self.text.share()?,
         })
-    }
-
-    /// Its text.
-    pub fn as_str(&self) -> &str
-        ensures { result.now ≡ self.now }
-    {
-        self.text.as_str()
     }
 
     /// Its value.

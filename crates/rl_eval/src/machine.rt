@@ -171,17 +171,19 @@ fn evaluate<O: Sink>(
 #[cfg(test)]
 mod tests {
     use super::*;
-    use rl_base::{MemFiles, MemSink};
+    use crate::literal::Literal;
+    use rl_base::{MemFiles, MemSink, Row};
+    use rl_grammar::Name;
     use std::test::Fail;
 
     #[test]
     fn a_budget_cuts_where_its_units_end(rt: HostRuntime) -> Result<(), Fail> {
-        let text =
-            "module M import IO; void main() { println(\"a\"); println(\"b\"); println(\"c\"); }";
         for units in 0..14u64 {
-            let Some(program) = Program::read(rt.alloc(), "M", text.as_bytes())? else {
-                return Err("not read".into());
-            };
+            let mut literals = Vec::new(rt.alloc());
+            for text in ["a", "b", "c"] {
+                literals.push(Literal::new(&Name::from_str(rt.alloc(), text)?)?)?;
+            }
+            let program = Program::new(Row::from_vec(rt.alloc(), literals)?);
             let mut machine = Machine::new(rt.alloc(), program, &[])?;
             let mut files = MemFiles::new(rt.alloc());
             let mut out = MemSink::new(rt.alloc(), 6, &[])?;

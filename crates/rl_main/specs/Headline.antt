@@ -1,8 +1,10 @@
 -- What a run leaves on out and err, against what it means.
-use Rattle.std.specs.Prelude.{◌≡◌, ◌⊎◌}
+use Rattle.std.specs.Prelude.{◌≡◌, ◌⊎◌, ℕ, List}
 use Rattle.rl_base.specs.Told.{Told, told_after, TakesPart}
 use Rattle.rl_main.specs.declared.status.Status.{Status}
-use Rattle.rl_main.specs.declared.status.Status.TheVariants.{FileFault, SinkFault, OutOfMemory}
+use Rattle.rl_main.specs.declared.status.Status.TheVariants.{ModuleFault, FileFault, SinkFault, OutOfMemory, Budget}
+use Rattle.rl_modules.specs.Load.{Fault}
+use Rattle.rl_main.specs.Lines.{fault_line, budget_line}
 use Rattle.rl_main.specs.Meaning.{Meaning}
 
 -- The status and what was put on both sinks are those that are meant. After a failed read, or for want of memory, a front of what is meant was put on out and nothing on err. After a failed put it is so too, or all of out was put and a front of err.
@@ -11,3 +13,17 @@ Headline m FileFault out out' err err' = TakesPart out m.out out' × (err' ≡ e
 Headline m OutOfMemory out out' err err' = TakesPart out m.out out' × (err' ≡ err)
 Headline m SinkFault out out' err err' = (TakesPart out m.out out' × (err' ≡ err)) ⊎ ((out' ≡ told_after out m.out) × TakesPart err m.err err')
 Headline m status out out' err err' = (status ≡ m.status) × (out' ≡ told_after out m.out) × (err' ≡ told_after err m.err)
+
+-- The line of a status was put on err, or not all of it where the put failed, or nothing for want of memory.
+abbrev pub PutsLine : List ℕ → (told : Status) → Status → Told → Told → Type 0
+PutsLine line told SinkFault err err' = TakesPart err line err'
+PutsLine line told OutOfMemory err err' = err' ≡ err
+PutsLine line told status err err' = (status ≡ told) × (err' ≡ told_after err line)
+
+-- a fault of a module was told
+abbrev pub Refuses : Fault → Status → Told → Told → Type 0
+Refuses fault status err err' = PutsLine (fault_line fault) ModuleFault status err err'
+
+-- the end of a budget was told
+abbrev pub TellsBudget : (units : ℕ) → Status → Told → Told → Type 0
+TellsBudget units status err err' = PutsLine (budget_line units) Budget status err err'

@@ -1,5 +1,4 @@
 pub mod Status
-pub mod Words
-pub mod Load
+pub mod Lines
 pub mod Meaning
 pub mod Headline

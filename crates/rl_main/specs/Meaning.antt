@@ -1,13 +1,14 @@
 -- What the words of the command mean, over these files.
-use Rattle.std.specs.Prelude.{ℕ, List, [], ◌∷◌, ◌++◌, Option, Some, None, Result, Ok, Err, codes}
-use Rattle.rl_base.specs.Holds.{FileMap, file_at}
+use Rattle.std.specs.Prelude.{ℕ, List, [], Option, Some, None, Result, Ok, Err}
+use Rattle.rl_base.specs.Holds.{FileMap}
 use Rattle.rl_eval.specs.Evaluation.{Ran, Done, Cut}
 use Rattle.rl_eval.specs.Derivation.{derivation}
-use Rattle.rl_main.specs.declared.load.Fault.{Fault}
+use Rattle.rl_eval.specs.Preparation.{prepared_of}
+use Rattle.rl_modules.specs.Load.{Fault, Loading, load_of}
 use Rattle.rl_main.specs.declared.status.Status.{Status}
 use Rattle.rl_main.specs.declared.status.Status.TheVariants.{Value, Usage, ModuleFault, Budget}
-use Rattle.rl_main.specs.Words.{module_of}
-use Rattle.rl_main.specs.Load.{path_of, loaded_of, line_of}
+use Rattle.rl_words.specs.Words.{Asked, asked_of}
+use Rattle.rl_main.specs.Lines.{usage_line, fault_line, budget_line}
 
 -- the bytes of out and err, and the status
 pub record Meaning : Type 0 where
@@ -15,35 +16,30 @@ pub record Meaning : Type 0 where
   pub err : List ℕ
   pub status : Status
 
--- the budget, in units
-abbrev pub units : ℕ
-units = 50000000
-
-abbrev pub usage_line : List ℕ
-usage_line = codes "usage: rascal JOB MODULE [ARG].. [--root DIR] [--steps N]" ++ 10 ∷ []
-
-abbrev pub budget_line : List ℕ
-budget_line = codes "budget: 50000000" ++ 10 ∷ []
-
 -- `main` has no result, which counts as 0; a derivation that is cut is the end of the budget
-abbrev pub meaning_of_ran : Ran → Meaning
-meaning_of_ran (Done v n printed) = record { out = printed; err = []; status = Value 0 }
-meaning_of_ran (Cut printed) = record { out = printed; err = budget_line; status = Budget }
+abbrev pub meaning_of_ran : (units : ℕ) → Ran → Meaning
+meaning_of_ran units (Done v n printed) = record { out = printed; err = []; status = Value 0 }
+meaning_of_ran units (Cut printed) = record { out = printed; err = budget_line units; status = Budget }
 
-abbrev pub meaning_of_program : List (List ℕ) → Meaning
-meaning_of_program literals = meaning_of_ran (derivation literals units)
+abbrev pub meaning_of_program : (units : ℕ) → List (List ℕ) → Meaning
+meaning_of_program units texts = meaning_of_ran units (derivation texts units)
 
--- a module with a fault is refused, else its program is run
-abbrev pub meaning_of_loaded : List ℕ → Result (List (List ℕ)) Fault → Meaning
-meaning_of_loaded path (Err fault) = record { out = []; err = line_of path fault; status = ModuleFault }
-meaning_of_loaded path (Ok literals) = meaning_of_program literals
+abbrev pub meaning_of_fault : Fault → Meaning
+meaning_of_fault fault = record { out = []; err = fault_line fault; status = ModuleFault }
 
-abbrev pub meaning_of_module : List ℕ → FileMap → Meaning
-meaning_of_module name files = meaning_of_loaded (path_of name) (loaded_of name (file_at files (path_of name)))
+-- modules of which no program is made are refused, else the program is run
+abbrev pub meaning_of_prepared : (units : ℕ) → Result (List (List ℕ)) Fault → Meaning
+meaning_of_prepared units (Err fault) = meaning_of_fault fault
+meaning_of_prepared units (Ok texts) = meaning_of_program units texts
 
-abbrev pub meaning_of_job : Option (List ℕ) → FileMap → Meaning
-meaning_of_job None files = record { out = []; err = usage_line; status = Usage }
-meaning_of_job (Some name) files = meaning_of_module name files
+-- modules with a fault are refused
+abbrev pub meaning_of_loaded : (units : ℕ) → Loading → Meaning
+meaning_of_loaded units (Err fault) = meaning_of_fault fault
+meaning_of_loaded units (Ok modules) = meaning_of_prepared units (prepared_of modules.list)
+
+abbrev pub meaning_of_asked : Option Asked → FileMap → Meaning
+meaning_of_asked None files = record { out = []; err = usage_line; status = Usage }
+meaning_of_asked (Some asked) files = meaning_of_loaded asked.units (load_of files asked.root asked.name)
 
 abbrev pub meaning : List (List ℕ) → FileMap → Meaning
-meaning words files = meaning_of_job (module_of words) files
+meaning words files = meaning_of_asked (asked_of words) files

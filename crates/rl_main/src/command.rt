@@ -1,26 +1,22 @@
 //! The whole command.
 
-ghost use Rattle.std.specs.Prelude.{◌≡◌, ◌≤◌, ◌⊎◌, map, string_bytes, Some, None, IfSome, codes};
+ghost use Rattle.std.specs.Prelude.{◌≡◌, ◌≤◌, ◌⊎◌, map, string_bytes, Some, None, IfSome};
 ghost use Rattle.rl_base.specs.Faults.{Rose};
-ghost use Rattle.rl_base.specs.Holds.{file_at};
-ghost use Rattle.rl_base.specs.Told.{told_after};
-ghost use Rattle.rl_main.specs.Words.{module_of};
-ghost use Rattle.rl_main.specs.Meaning.{usage_line, budget_line, meaning, meaning_of_module, meaning_of_program};
-ghost use Rattle.rl_main.specs.Headline.{Headline};
+ghost use Rattle.rl_modules.specs.Load.{fault_at, load_of};
+ghost use Rattle.rl_eval.specs.Preparation.{prepared_of};
+ghost use Rattle.rl_words.specs.Words.{asked_of, seen_asked};
+ghost use Rattle.rl_main.specs.Meaning.{meaning, meaning_of_fault, meaning_of_loaded, meaning_of_prepared, meaning_of_program};
+ghost use Rattle.rl_main.specs.Headline.{Headline, Refuses, TellsBudget};
 
-use crate::load::{LoadEnd, load, path_of};
+use crate::lines::{budget_line, fault_line};
 use crate::status::Status;
-use crate::words::module_of;
-use rl_base::{Files, Meter, Sink};
-use rl_eval::{End, Machine, Program};
+use rl_base::{Files, Meter, Place, Sink};
+use rl_eval::{End, Machine, PrepareEnd, Program, prepare};
+use rl_modules::{LoadEnd, Modules, load};
+use rl_words::{Asked, asked_of};
 use std::alloc::Global;
 
-/// The units of a run whose words give no number.
-pub const DEFAULT_UNITS: u64 = 50_000_000;
-
 const USAGE: &str = "usage: rascal JOB MODULE [ARG].. [--root DIR] [--steps N]\n";
-
-const BUDGET: &str = "budget: 50000000\n";
 
 /// Does what the words of the command ask for, and answers how it ended.
 ///
@@ -37,8 +33,8 @@ pub fn run<F: Files, O: Sink, E: Sink>(
     ensures headline { IfSome (F.holds files.old) (λ held. Headline (meaning (map string_bytes words.now) held) result (O.told out.old) (O.told out.new) (E.told err.old) (E.told err.new)) }
 
     // Whatever the files tell:
-    ensures usage { result ≡ Status.Usage → module_of (map string_bytes words.now) ≡ None }
-    ensures no_module { module_of (map string_bytes words.now) ≡ None → (result ≡ Status.Usage) ⊎ (result ≡ Status.SinkFault) }
+    ensures usage { result ≡ Status.Usage → asked_of (map string_bytes words.now) ≡ None }
+    ensures no_module { asked_of (map string_bytes words.now) ≡ None → (result ≡ Status.Usage) ⊎ ((result ≡ Status.SinkFault) ⊎ (result ≡ Status.OutOfMemory)) }
     ensures file_fault { result ≡ Status.FileFault → Rose (F.faults files.old) (F.faults files.new) }
     ensures sink_fault { result ≡ Status.SinkFault → Rose (O.faults out.old) (O.faults out.new) ⊎ Rose (E.faults err.old) (E.faults err.new) }
 
@@ -47,24 +43,25 @@ pub fn run<F: Files, O: Sink, E: Sink>(
     ensures out_counted { O.faults out.old ≤ O.faults out.new }
     ensures err_counted { E.faults err.old ≤ E.faults err.new }
 {
-    match module_of(words) {
-        None => match err.put(USAGE.as_bytes()) {
+    match asked_of(alloc, words) {
+        Err(_) => Status::OutOfMemory,
+        Ok(None) => match err.put(USAGE.as_bytes()) {
             Ok(()) => Status::Usage,
             Err(_) => Status::SinkFault,
         },
-        Some(name) => run_module(alloc, name, files, out, err),
+        Ok(Some(asked)) => run_module(alloc, asked, files, out, err),
     }
 }
 
-/// Loads and runs the module of a name.
+/// Loads and runs a module.
 fn run_module<F: Files, O: Sink, E: Sink>(
     alloc: Global,
-    name: &str,
+    asked: Asked<'_>,
     files: &mut F,
     out: &mut O,
     err: &mut E,
 ) -> Status
-    ensures headline { IfSome (F.holds files.old) (λ held. Headline (meaning_of_module name.now held) result (O.told out.old) (O.told out.new) (E.told err.old) (E.told err.new)) }
+    ensures headline { IfSome (F.holds files.old) (λ held. Headline (meaning_of_loaded asked.entry.units (load_of held asked.entry.root.now asked.entry.name.now)) result (O.told out.old) (O.told out.new) (E.told err.old) (E.told err.new)) }
     ensures no_usage { result ≡ Status.Usage → ⊥ }
     ensures file_fault { result ≡ Status.FileFault → Rose (F.faults files.old) (F.faults files.new) }
     ensures sink_fault { result ≡ Status.SinkFault → Rose (O.faults out.old) (O.faults out.new) ⊎ Rose (E.faults err.old) (E.faults err.new) }
@@ -73,20 +70,53 @@ fn run_module<F: Files, O: Sink, E: Sink>(
     ensures out_counted { O.faults out.old ≤ O.faults out.new }
     ensures err_counted { E.faults err.old ≤ E.faults err.new }
 {
-    let Ok(path) = path_of(alloc, name) else {
-        return Status::OutOfMemory;
-    };
-    match load(alloc, files, name, path.as_str()) {
-        Ok(program) => run_program(alloc, program, files, out, err),
-        Err(LoadEnd::Fault(fault)) => match fault.line(alloc, path.as_str()) {
-            Err(_) => Status::OutOfMemory,
-            Ok(line) => match err.put(line.as_str().as_bytes()) {
-                Ok(()) => Status::ModuleFault,
-                Err(_) => Status::SinkFault,
-            },
-        },
+    match load(alloc, files, asked.root, asked.name) {
+        Ok(modules) => run_modules(alloc, modules, asked.units, files, out, err),
+        Err(LoadEnd::Fault { path, place, code }) => refuse(alloc, path.as_str(), place, code, err),
         Err(LoadEnd::FileFault) => Status::FileFault,
         Err(LoadEnd::OutOfMemory) => Status::OutOfMemory,
+    }
+}
+
+/// Tells a fault of a module.
+fn refuse<E: Sink>(alloc: Global, path: &str, place: Place, code: u8, err: &mut E) -> Status
+    ensures headline { Refuses (fault_at (path.now, place) code) result (E.told err.old) (E.told err.new) }
+    ensures sink_fault { result ≡ Status.SinkFault → Rose (E.faults err.old) (E.faults err.new) }
+    ensures err_counted { E.faults err.old ≤ E.faults err.new }
+{
+    match fault_line(alloc, path, place, code) {
+        Err(_) => Status::OutOfMemory,
+        Ok(line) => match err.put(line.as_str().as_bytes()) {
+            Ok(()) => Status::ModuleFault,
+            Err(_) => Status::SinkFault,
+        },
+    }
+}
+
+/// Makes a program of modules and runs it.
+fn run_modules<F: Files, O: Sink, E: Sink>(
+    alloc: Global,
+    modules: Modules,
+    units: u64,
+    files: &mut F,
+    out: &mut O,
+    err: &mut E,
+) -> Status
+    ensures headline { Headline (meaning_of_prepared units (prepared_of modules.list)) result (O.told out.old) (O.told out.new) (E.told err.old) (E.told err.new) }
+    ensures no_usage { result ≡ Status.Usage → ⊥ }
+    ensures file_fault { result ≡ Status.FileFault → Rose (F.faults files.old) (F.faults files.new) }
+    ensures sink_fault { result ≡ Status.SinkFault → Rose (O.faults out.old) (O.faults out.new) ⊎ Rose (E.faults err.old) (E.faults err.new) }
+    ensures held { F.holds files.new ≡ F.holds files.old }
+    ensures files_counted { F.faults files.old ≤ F.faults files.new }
+    ensures out_counted { O.faults out.old ≤ O.faults out.new }
+    ensures err_counted { E.faults err.old ≤ E.faults err.new }
+{
+    match prepare(alloc, modules) {
+        Ok(program) => run_program(alloc, program, units, files, out, err),
+        Err(PrepareEnd::Fault { path, place, code }) => {
+            refuse(alloc, path.as_str(), place, code, err)
+        }
+        Err(PrepareEnd::OutOfMemory) => Status::OutOfMemory,
     }
 }
 
@@ -94,11 +124,12 @@ fn run_module<F: Files, O: Sink, E: Sink>(
 fn run_program<F: Files, O: Sink, E: Sink>(
     alloc: Global,
     program: Program,
+    units: u64,
     files: &mut F,
     out: &mut O,
     err: &mut E,
 ) -> Status
-    ensures headline { Headline (meaning_of_program program) result (O.told out.old) (O.told out.new) (E.told err.old) (E.told err.new) }
+    ensures headline { Headline (meaning_of_program units program) result (O.told out.old) (O.told out.new) (E.told err.old) (E.told err.new) }
     ensures no_usage { result ≡ Status.Usage → ⊥ }
     ensures file_fault { result ≡ Status.FileFault → Rose (F.faults files.old) (F.faults files.new) }
     ensures sink_fault { result ≡ Status.SinkFault → Rose (O.faults out.old) (O.faults out.new) ⊎ Rose (E.faults err.old) (E.faults err.new) }
@@ -110,17 +141,29 @@ fn run_program<F: Files, O: Sink, E: Sink>(
     let Ok(mut machine) = Machine::new(alloc, program, &[]) else {
         return Status::OutOfMemory;
     };
-    let mut meter = Meter::new(DEFAULT_UNITS);
+    let mut meter = Meter::new(units);
     match machine.run(files, out, &mut meter) {
         End::Value(_) => Status::Value(0),
-        End::Budget => match err.put(BUDGET.as_bytes()) {
-            Ok(()) => Status::Budget,
-            Err(_) => Status::SinkFault,
-        },
+        End::Budget => tell_budget(alloc, units, err),
         End::FileFault => Status::FileFault,
         End::SinkFault => Status::SinkFault,
         End::OutOfMemory => Status::OutOfMemory,
         End::Failed(_) | End::Uncaught(_) => unreachable!(),
+    }
+}
+
+/// Tells that a budget was used up.
+fn tell_budget<E: Sink>(alloc: Global, units: u64, err: &mut E) -> Status
+    ensures headline { TellsBudget units result (E.told err.old) (E.told err.new) }
+    ensures sink_fault { result ≡ Status.SinkFault → Rose (E.faults err.old) (E.faults err.new) }
+    ensures err_counted { E.faults err.old ≤ E.faults err.new }
+{
+    match budget_line(alloc, units) {
+        Err(_) => Status::OutOfMemory,
+        Ok(line) => match err.put(line.as_str().as_bytes()) {
+            Ok(()) => Status::Budget,
+            Err(_) => Status::SinkFault,
+        },
     }
 }
 

@@ -2,9 +2,8 @@
 #![tactic(auto)]
 
 mod command;
-mod load;
+mod lines;
 mod status;
-mod words;
 
 pub use command::run;
 pub use status::Status;

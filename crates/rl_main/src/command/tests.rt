@@ -3,6 +3,7 @@
 use super::*;
 use rl_base::{MemFiles, MemSink};
 use std::alloc::AllocError;
+use std::process::Abort;
 use std::test::Fail;
 
 const HELLO: &str = "module Main import IO;\nvoid main(list[str] args) { println(\"hi\"); }\n";
@@ -42,59 +43,232 @@ fn run_over(
     Ok(Left { status, out, err })
 }
 
+/// Runs over the file of one path, and compares what is left.
+fn check(
+    rt: &(impl AllocGlobal + Abort),
+    words: &[&str],
+    path: &str,
+    bytes: &[u8],
+    out: &str,
+    err: &str,
+    status: Status,
+) -> Result<(), Fail> {
+    let mut files = MemFiles::new(rt.alloc());
+    files.add(path, bytes)?;
+    let left = run_over(rt.alloc(), words, &mut files, &[], &[])?;
+    assert_eq!(rt; left.out.bytes(), out.as_bytes(), "{words:?}");
+    assert_eq!(rt; left.err.bytes(), err.as_bytes(), "{words:?}");
+    assert_eq!(rt; left.status, status, "{words:?}");
+    Ok(())
+}
+
 #[test]
 fn runs_or_refuses_a_module(rt: HostRuntime) -> Result<(), Fail> {
-    let rows: [(&[&str], &str, &str, &str, Status); 12] = [
-        (&["run", "Main"], HELLO, "hi\n", "", Status::Value(0)),
+    let rows: [(&str, &str, &[u8], &str, &str, Status); 14] = [
         (
-            &["run", "Main"],
-            THREE,
+            "Main",
+            "Main.rsc",
+            HELLO.as_bytes(),
+            "hi\n",
+            "",
+            Status::Value(0),
+        ),
+        (
+            "Main",
+            "Main.rsc",
+            THREE.as_bytes(),
             "one\ntwo\nsix\n",
             "",
             Status::Value(0),
         ),
         (
-            &["run", "Main"],
+            "a::b",
+            "a/b.rsc",
+            b"module a::b import IO; void main() { println(\"b\"); }",
+            "b\n",
             "",
+            Status::Value(0),
+        ),
+        (
+            "Main",
+            "Main.rsc",
+            b"",
             "",
-            "Main.rsc:1:1: M12\n",
+            "Main.rsc:1:1: M9\n",
             Status::ModuleFault,
         ),
         (
-            &["run", "Main"],
-            "module Mein import IO; void main() { }",
+            "Main",
+            "Main.rsc",
+            b"module Main\nvoid main() {",
             "",
-            "Main.rsc:1:1: M12\n",
+            "Main.rsc:2:14: M9\n",
             Status::ModuleFault,
         ),
         (
-            &["run", "Mein"],
-            HELLO,
+            "Main",
+            "Main.rsc",
+            b"\xFF",
+            "",
+            "Main.rsc:1:1: M3\n",
+            Status::ModuleFault,
+        ),
+        (
+            "Main",
+            "Main.rsc",
+            b"module Main\nimport Nope;\n",
+            "",
+            "Main.rsc:2:1: M1\n",
+            Status::ModuleFault,
+        ),
+        (
+            "A",
+            "A.rsc",
+            b"module B\n",
+            "",
+            "A.rsc:1:8: M11\n",
+            Status::ModuleFault,
+        ),
+        (
+            "Mein",
+            "Main.rsc",
+            HELLO.as_bytes(),
             "",
             "Mein.rsc:1:1: M1\n",
             Status::ModuleFault,
         ),
-        (&[], HELLO, "", USAGE_LINE, Status::Usage),
-        (&["run"], HELLO, "", USAGE_LINE, Status::Usage),
-        (&["check", "Main"], HELLO, "", USAGE_LINE, Status::Usage),
-        (&["run", "1Main"], HELLO, "", USAGE_LINE, Status::Usage),
-        (&["run", "a::b"], HELLO, "", USAGE_LINE, Status::Usage),
         (
-            &["run", "Main", "--steps", "x"],
-            HELLO,
+            "Main",
+            "Main.rsc",
+            b"module Main import IO;\nint main() { }",
+            "",
+            "Main.rsc:2:1: M12\n",
+            Status::ModuleFault,
+        ),
+        (
+            "Main",
+            "Main.rsc",
+            b"module Main import IO; void main() {\nprintln(\"a\");\n  println(1); }",
+            "",
+            "Main.rsc:3:11: M12\n",
+            Status::ModuleFault,
+        ),
+        (
+            "Main",
+            "Main.rsc",
+            b"module Main void main() {\n println(\"a\"); }",
+            "",
+            "Main.rsc:2:2: M12\n",
+            Status::ModuleFault,
+        ),
+        (
+            "Main",
+            "Main.rsc",
+            b"module Main import IO; void main(str s) { }",
+            "",
+            "Main.rsc:1:34: M12\n",
+            Status::ModuleFault,
+        ),
+        (
+            "Main",
+            "Main.rsc",
+            b"// nothing\nmodule Main import IO;",
+            "",
+            "Main.rsc:1:1: M29\n",
+            Status::ModuleFault,
+        ),
+    ];
+    for (name, path, bytes, out, err, status) in rows {
+        check(&rt, &["run", name], path, bytes, out, err, status)?;
+    }
+    Ok(())
+}
+
+#[test]
+fn the_main_of_the_root_alone_runs(rt: HostRuntime) -> Result<(), Fail> {
+    let rows: [(&str, &str, &str, Status); 4] = [
+        (
+            "module a::b import IO; void main() { println(\"b\"); }",
+            "main\n",
+            "",
+            Status::Value(0),
+        ),
+        (
+            "module a::b import IO; extend Main;\nvoid f(list[str] x) { println(\"f\"); }",
+            "main\n",
+            "",
+            Status::Value(0),
+        ),
+        (
+            "module a::b\nvoid f() { println(\"f\"); }",
+            "",
+            "lib/a/b.rsc:2:12: M12\n",
+            Status::ModuleFault,
+        ),
+        (
+            "module a::b\nimport\n  c;",
+            "",
+            "lib/a/b.rsc:2:1: M1\n",
+            Status::ModuleFault,
+        ),
+    ];
+    for (text, out, err, status) in rows {
+        let mut files = MemFiles::new(rt.alloc());
+        files.add(
+            "lib/Main.rsc",
+            b"module Main import IO; import a::b; void main() { println(\"main\"); }",
+        )?;
+        files.add("lib/a/b.rsc", text.as_bytes())?;
+        let words: [&str; 4] = ["run", "--root=lib", "--", "Main"];
+        let left = run_over(rt.alloc(), &words, &mut files, &[], &[])?;
+        assert_eq!(rt; left.out.bytes(), out.as_bytes(), "{text}");
+        assert_eq!(rt; left.err.bytes(), err.as_bytes(), "{text}");
+        assert_eq!(rt; left.status, status, "{text}");
+    }
+    Ok(())
+}
+
+#[test]
+fn words_of_another_form_are_told(rt: HostRuntime) -> Result<(), Fail> {
+    let rows: [&[&str]; 4] = [
+        &[],
+        &["check", "Main"],
+        &["run", "1Main"],
+        &["run", "Main", "--steps", "18446744073709551616"],
+    ];
+    for words in rows {
+        check(
+            &rt,
+            words,
+            "Main.rsc",
+            HELLO.as_bytes(),
             "",
             USAGE_LINE,
             Status::Usage,
-        ),
-        (&["run", "Main", "-x"], HELLO, "", USAGE_LINE, Status::Usage),
-    ];
-    for (words, text, out, err, status) in rows {
-        let mut files = MemFiles::new(rt.alloc());
-        files.add("Main.rsc", text.as_bytes())?;
-        let left = run_over(rt.alloc(), words, &mut files, &[], &[])?;
-        assert_eq!(rt; left.out.bytes(), out.as_bytes(), "{words:?} {text}");
-        assert_eq!(rt; left.err.bytes(), err.as_bytes(), "{words:?} {text}");
-        assert_eq!(rt; left.status, status, "{words:?} {text}");
+        )?;
+    }
+    Ok(())
+}
+
+#[test]
+fn a_budget_cuts_where_its_units_end(rt: HostRuntime) -> Result<(), Fail> {
+    for units in 0..13u64 {
+        let steps = format!(in rt.alloc(); "{units}")?;
+        let line = format!(in rt.alloc(); "budget: {units}\n")?;
+        // The alternative and its member take two units, and each statement three, the last of them before it prints.
+        let out = match units {
+            0..5 => "",
+            5..8 => "one\n",
+            8..11 => "one\ntwo\n",
+            _ => "one\ntwo\nsix\n",
+        };
+        let (err, status) = if units < 11 {
+            (line.as_str(), Status::Budget)
+        } else {
+            ("", Status::Value(0))
+        };
+        let words: [&str; 4] = ["run", "Main", "--steps", steps.as_str()];
+        check(&rt, &words, "Main.rsc", THREE.as_bytes(), out, err, status)?;
     }
     Ok(())
 }

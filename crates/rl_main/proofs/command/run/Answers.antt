@@ -5,9 +5,9 @@ use Rattle.rl_main.proofs.command.run.Goals as goal
 pub returns-in-Ok-clause-headline : goal.returns-in-Ok-clause-headline
 returns-in-Ok-clause-headline g c =
     usage_put (g.F.Files.holds c.args.files.now) (map string_bytes c.args.words.now) (g.O.Sink.told c.args.out.now) (g.E.Sink.told c.args.err.now) _
-    (sym c.in-None.ensures) (rw c.as_bytes.ensures.value at c.in-Ok.ensures.ok)
+    (sym (rw c.in-Ok-None.field-0-is at c.in-Ok-None.ensures)) (rw c.as_bytes.ensures.value at c.in-Ok.ensures.ok)
 
-pub returns-in-Err-clause-headline : goal.returns-in-Err-clause-headline
-returns-in-Err-clause-headline g c =
+pub returns-in-Err-put-clause-headline : goal.returns-in-Err-put-clause-headline
+returns-in-Err-put-clause-headline g c =
     usage_failed (g.F.Files.holds c.args.files.now) (map string_bytes c.args.words.now) (g.O.Sink.told c.args.out.now) (g.E.Sink.told c.args.err.now) _
-    (sym c.in-None.ensures) (rw c.as_bytes.ensures.value at c.in-Err.ensures.err)
+    (sym (rw c.in-Ok-None.field-0-is at c.in-Ok-None.ensures)) (rw c.as_bytes.ensures.value at c.in-Err-put.ensures.err)

@@ -1,0 +1,15 @@
+use Rattle.std.proofs.Common.{◌≡◌, ◌≤◌, ◌+◌, ◌*◌, ◌-◌, length, IfSome}
+use Rattle.rl_modules.specs.Load.{most_modules}
+use Rattle.rl_modules.specs.Unfinished.{outcome_of, IsSound}
+use Rattle.rl_modules.proofs.loader.Loader.run.Given as goal
+
+abbrev pub invariant-modules : goal.invariant-modules
+invariant-modules g l = record {
+  sound : IsSound l.self;
+  held : g.F.Files.holds l.files ≡ g.F.Files.holds l.initial.files;
+  counted : g.F.Files.faults l.initial.files ≤ g.F.Files.faults l.files;
+  outcome : IfSome (g.F.Files.holds l.initial.files) (λ held. outcome_of held l.root l.self ≡ outcome_of held l.root l.initial.self);
+}
+
+abbrev pub decreases-modules : goal.decreases-modules
+decreases-modules g l = 2 * (most_modules - length l.self.list.items) + length l.self.unfinished.items

@@ -1,0 +1,72 @@
+-- What is left to do while modules are loaded.
+use Rattle.std.specs.Prelude.{◌≡◌, ℕ, ◌+◌, ◌-◌, ◌<◌, ◌≤◌, List, [], ◌∷◌, ◌++◌, length, drop, None, Result, Ok, Err, IfSome}
+use Rattle.std.specs.List.{slice_get}
+use Rattle.rl_base.specs.Holds.{FileMap}
+use Rattle.rl_syntax.specs.declared.module.Module.{Module}
+use Rattle.rl_syntax.specs.declared.declaration.Decl.{Decl}
+use Rattle.rl_modules.specs.declared.loaded.Modules.{Modules}
+use Rattle.rl_modules.specs.declared.loaded.LoadEnd.{LoadEnd}
+use Rattle.rl_modules.specs.declared.loaded.LoadEnd.TheVariants as end
+use Rattle.rl_modules.specs.declared.loader.Unfinished.{Unfinished}
+use Rattle.rl_modules.specs.declared.loader.Loader.{Loader}
+use Rattle.rl_modules.specs.Load.{Loading, fault_at, and_then, in_turn, import_of, wanted, names_of, load_import, load_within, with_finished, most_modules}
+
+-- the rest of a module: its further imports, and then it is finished
+abbrev pub rest_of : ℕ → FileMap → List ℕ → Unfinished → Modules → Loading
+rest_of k files root unfinished met =
+    and_then (in_turn (load_import (load_within k files root) unfinished.path) (drop unfinished.next unfinished.declarations) met) (λ loaded.
+    Ok (with_finished unfinished.number loaded))
+
+-- the rests of the modules that are not finished, the last one first; each is nested one deeper than the one before it
+unfoldable pub rests_of : ℕ → FileMap → List ℕ → List Unfinished → Modules → Loading
+rests_of k files root [] met = Ok met
+rests_of k files root (one ∷ more) met = and_then (rests_of (k - 1) files root more met) (rest_of k files root one)
+
+abbrev pub met_by : Loader → Modules
+met_by loader = record { list = loader.list.items; finished = loader.finished.items }
+
+-- what comes of all that a loader has not finished
+abbrev pub outcome_of : FileMap → List ℕ → Loader → Loading
+outcome_of files root loader = rests_of (most_modules - 1) files root loader.unfinished.items (met_by loader)
+
+-- a module as it is opened
+abbrev pub opened : ℕ → Module → Unfinished
+opened number it = record { number = number; path = it.path; declarations = it.declarations; next = 0 }
+
+-- nothing is wanted from one place up to another
+abbrev pub SkipsTo : (names : List (List ℕ)) → List Decl → (start end : ℕ) → Type 0
+SkipsTo names declarations start end = (k : ℕ) → start ≤ k → k < end → IfSome (slice_get declarations k) (λ declaration. wanted names (import_of declaration) ≡ None)
+
+-- the names are those of the modules that were met, of which there are not too many, and each one that is not finished is among them
+pub record IsSound (loader : Loader) : Type 0 where
+  pub named : loader.names ≡ names_of loader.list.items
+  pub few : length loader.list.items ≤ most_modules
+  pub nested : length loader.unfinished.items ≤ length loader.list.items
+
+-- a module was added
+pub record Opens (it : Module) (old new : Loader) : Type 0 where
+  pub sound : IsSound new
+  pub list : new.list.items ≡ old.list.items ++ it ∷ []
+  pub finished : new.finished.items ≡ old.finished.items
+  pub unfinished : new.unfinished.items ≡ old.unfinished.items ++ opened (length old.list.items) it ∷ []
+
+-- a module was finished
+pub record Finishes (number : ℕ) (old new : Loader) : Type 0 where
+  pub list : new.list.items ≡ old.list.items
+  pub names : new.names ≡ old.names
+  pub finished : new.finished.items ≡ old.finished.items ++ number ∷ []
+  pub unfinished : new.unfinished.items ≡ old.unfinished.items
+
+-- the rest of a module was put off
+pub record PutsOff (one : Unfinished) (old new : Loader) : Type 0 where
+  pub list : new.list.items ≡ old.list.items
+  pub names : new.names ≡ old.names
+  pub finished : new.finished.items ≡ old.finished.items
+  pub unfinished : new.unfinished.items ≡ old.unfinished.items ++ one ∷ []
+
+-- it goes on to that, or ends so, unless the outside or memory failed
+abbrev pub GoesOn : {A : Type 0} → (before : Loading) → Result A LoadEnd → (after : Loading) → Type 0
+GoesOn before (Ok _) after = after ≡ before
+GoesOn before (Err (end.Fault path place code)) after = before ≡ Err (fault_at (path, place) code)
+GoesOn before (Err end.FileFault) after = Unit {0}
+GoesOn before (Err end.OutOfMemory) after = Unit {0}
