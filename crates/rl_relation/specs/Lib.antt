@@ -1,3 +1,4 @@
 pub mod Pairs
 pub mod Relations
 pub mod Closures
+pub mod Laws

@@ -3,6 +3,7 @@
 
 mod closures;
 mod composition;
+pub mod laws;
 mod pairs;
 mod projections;
 mod restrictions;
