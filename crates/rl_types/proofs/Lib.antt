@@ -3,6 +3,7 @@ pub mod Having
 pub mod Joins
 pub mod Leaves
 pub mod Lookups
+pub mod Matchables
 pub mod Members
 pub mod Names
 pub mod Order

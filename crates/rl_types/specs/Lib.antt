@@ -1,6 +1,7 @@
 pub mod Codes
 pub mod Declarations
 pub mod Exceptions
+pub mod Matchable
 pub mod PlainType
 pub mod Program
 pub mod Types

@@ -13,6 +13,9 @@ pub mod subtyping;
 pub use constructor::Constructor;
 pub use decls::Decls;
 pub use joining::join;
-pub use laws::{join_is_least, subtype_is_an_order, values_have_types_above};
+pub use laws::{join_is_least, may_start_is_a_test, subtype_is_an_order, values_have_types_above};
 pub use membership::has;
 pub use subtyping::subtype;
+
+#[cfg(test)]
+mod tests;
