@@ -256,7 +256,6 @@ program_with constructors declarations = record {
     parsed = λ sort around bytes. Gives empty_tuple;
     imploded = λ type v. Gives empty_tuple;
   };
-  operations = record { closure = λ v. Gives v; reflexive_closure = λ v. Gives v; library = λ name. None };
 }
 
 -- a constructor of the data type T, with these fields

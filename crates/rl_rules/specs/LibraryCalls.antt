@@ -1,9 +1,11 @@
 -- Library functions: those that print, read and parse, and all others by their own definition.
-use Rattle.std.specs.Prelude.{ℕ, ◌^◌, ◌||◌, nat_eq, nat_le, Bool, true, false, if◌then◌else◌, List, [], ◌∷◌, ◌++◌, length, Option, Some, None, Result, Ok, Err, codes, bytes_eq}
+use Rattle.std.specs.Prelude.{ℕ, ◌^◌, ◌||◌, nat_eq, nat_le, Bool, true, false, if◌then◌else◌, List, [], ◌∷◌, ◌++◌, length, Option, Some, None, Result, Ok, Err, codes, bytes_eq, find, option_map}
 use Rattle.std.specs.List.{list_any}
 use Rattle.rl_base.specs.Decode.{text_of}
-use Rattle.rl_exception.specs.Answer.{Answer}
 use Rattle.rl_exception.specs.Exceptions.{wrong_kind, path_not_found, io_exception}
+use Rattle.rl_ops.specs.Library.{library_of}
+use Rattle.rl_ops.specs.declared.functions.Lib.{Lib}
+use Rattle.rl_ops.specs.declared.functions.Lib.TheVariants as lib
 use Rattle.rl_print.specs.Printed.{shown_of}
 use Rattle.rl_value.specs.declared.shape.Scheme.TheVariants.{Cwd}
 use Rattle.rl_value.specs.Plain.{Plain, text, location}
@@ -74,9 +76,52 @@ implode p one v s = throw wrong_kind s
 
 -- By names. Another number of arguments, or a name that no function has, is none that a program without faults uses.
 
-abbrev pub by_definition : Option (List Plain → Answer) → List Plain → State → Rule
+abbrev pub function_names : List (List ℕ × Lib)
+function_names =
+    (codes "size", lib.Size)
+    ∷ (codes "isEmpty", lib.IsEmpty)
+    ∷ (codes "head", lib.Head)
+    ∷ (codes "last", lib.Last)
+    ∷ (codes "tail", lib.Tail)
+    ∷ (codes "reverse", lib.Reverse)
+    ∷ (codes "dup", lib.Dup)
+    ∷ (codes "take", lib.Take)
+    ∷ (codes "drop", lib.Drop)
+    ∷ (codes "indexOf", lib.IndexOf)
+    ∷ (codes "sort", lib.Sort)
+    ∷ (codes "toSet", lib.ToSet)
+    ∷ (codes "toList", lib.ToList)
+    ∷ (codes "max", lib.Max)
+    ∷ (codes "min", lib.Min)
+    ∷ (codes "sum", lib.Sum)
+    ∷ (codes "intercalate", lib.Intercalate)
+    ∷ (codes "domain", lib.Domain)
+    ∷ (codes "range", lib.Range)
+    ∷ (codes "delete", lib.Delete)
+    ∷ (codes "carrier", lib.Carrier)
+    ∷ (codes "invert", lib.Invert)
+    ∷ (codes "domainR", lib.DomainR)
+    ∷ (codes "domainX", lib.DomainX)
+    ∷ (codes "rangeR", lib.RangeR)
+    ∷ (codes "rangeX", lib.RangeX)
+    ∷ (codes "contains", lib.Contains)
+    ∷ (codes "startsWith", lib.StartsWith)
+    ∷ (codes "endsWith", lib.EndsWith)
+    ∷ (codes "split", lib.Split)
+    ∷ (codes "replaceAll", lib.ReplaceAll)
+    ∷ (codes "trim", lib.Trim)
+    ∷ (codes "substring", lib.Substring)
+    ∷ (codes "toInt", lib.ToInt)
+    ∷ (codes "spans", lib.Spans)
+    ∷ (codes "unparse", lib.Unparse)
+    ∷ []
+
+abbrev pub function_named : List ℕ → Option Lib
+function_named name = option_map (λ known. known.1) (find (λ known. bytes_eq name known.0) function_names)
+
+abbrev pub by_definition : Option Lib → List Plain → State → Rule
 by_definition None vs s = throw wrong_kind s
-by_definition (Some function) vs s = give_answer (function vs) s
+by_definition (Some function) vs s = give_answer (library_of function vs) s
 
 abbrev pub on_one : (Plain → State → Rule) → List Plain → State → Rule
 on_one rule (v ∷ []) s = rule v s
@@ -89,4 +134,4 @@ library_call p name one vs s =
     else if bytes_eq name (codes "readFile") then on_one read_file vs s
     else if bytes_eq name (codes "parse") then on_one (parse p one) vs s
     else if bytes_eq name (codes "implode") then on_one (implode p one) vs s
-    else by_definition (p.operations.library name) vs s
+    else by_definition (function_named name) vs s

@@ -10,6 +10,7 @@ use Rattle.rl_match.specs.Bindings.{bindings}
 use Rattle.rl_operators.specs.Comparison.{less_of, less_or_equal_of, greater_of, greater_or_equal_of}
 use Rattle.rl_operators.specs.Membership.{in_of, not_in_of, is_of}
 use Rattle.rl_operators.specs.Operators.{add_of, subtract_of, multiply_of, divide_of, remainder_of, intersect_of}
+use Rattle.rl_relation.specs.Closures.{closure_of, reflexive_closure_of}
 use Rattle.rl_relation.specs.Relations.{compose_of}
 use Rattle.rl_syntax.specs.declared.expression.Exp.{Exp}
 use Rattle.rl_syntax.specs.declared.expression.Suffix.{Suffix, out-Suffix}
@@ -204,8 +205,8 @@ abbrev pub suffix : Program → e.Suffix-F Exp Suffix Case Handler Stat → Oper
 suffix p (e.Subscript place y) d u s = right_operand subscript_of y d u s
 suffix p (e.Slice place from to) d u s = slice from to d u s
 suffix p (e.Field place name) d u s = answered (field_answer p.declarations name.name) u s
-suffix p (e.TransitiveClosure place) d u s = answered p.operations.closure u s
-suffix p (e.ReflexiveClosure place) d u s = answered p.operations.reflexive_closure u s
+suffix p (e.TransitiveClosure place) d u s = answered closure_of u s
+suffix p (e.ReflexiveClosure place) d u s = answered reflexive_closure_of u s
 
 abbrev pub suffixes : Program → List Suffix → List Operator
 suffixes p [] = []

@@ -25,15 +25,6 @@ pub record Grammars : Type 0 where
   -- what `implode` of a tree answers for a data type
   pub imploded : List ℕ → Plain → Answer
 
--- What operations answer whose definitions do not stand yet. Here they are any.
-pub record Operations : Type 0 where
-  -- the transitive closure of a relation
-  pub closure : Plain → Answer
-  -- the closure with all pairs of equal parts
-  pub reflexive_closure : Plain → Answer
-  -- a library function of this name, if there is one, on its arguments
-  pub library : List ℕ → Option (List Plain → Answer)
-
 pub record Program : Type 0 where
   -- the modules by their numbers, with the numbers of names set
   pub modules : List Module
@@ -41,7 +32,6 @@ pub record Program : Type 0 where
   pub finished : List ℕ
   pub declarations : Declarations
   pub grammars : Grammars
-  pub operations : Operations
 
 -- whether a value has a type as it is written
 abbrev pub has_type : Program → Plain → Ty → Bool
