@@ -251,6 +251,19 @@ fn words_of_another_form_are_told(rt: HostRuntime) -> Result<(), Fail> {
 }
 
 #[test]
+fn one_line_takes_five_units(rt: HostRuntime) -> Result<(), Fail> {
+    let rows: [(&str, &str, &str, Status); 2] = [
+        ("5", "hi\n", "", Status::Value(0)),
+        ("4", "", "budget: 4\n", Status::Budget),
+    ];
+    for (steps, out, err, status) in rows {
+        let words: [&str; 4] = ["run", "Main", "--steps", steps];
+        check(&rt, &words, "Main.rsc", HELLO.as_bytes(), out, err, status)?;
+    }
+    Ok(())
+}
+
+#[test]
 fn a_budget_cuts_where_its_units_end(rt: HostRuntime) -> Result<(), Fail> {
     for units in 0..13u64 {
         let steps = format!(in rt.alloc(); "{units}")?;
