@@ -257,8 +257,8 @@ fn a_long_list_has_its_type(rt: HostRuntime) -> Result<(), Fail> {
     let decls = declarations(rt.alloc())?;
     let ints = list_of(rt.alloc(), Ty::Int { place: here() })?;
     let mut items = Vec::new(rt.alloc());
-    for n in 0..1_000_000i128 {
-        items.push(int(n))?;
+    for n in 0..1_000_000u32 {
+        items.push(int(i128::from(n)))?;
     }
     let long = list(rt.alloc(), items)?;
     assert!(rt; has(&long, &ints, &decls));
