@@ -1,18 +1,22 @@
 -- The first scope and those inside it.
-use Rattle.std.proofs.Common.{◌≡◌, ◌≢◌, ℕ, zero, suc, ◌-◌, ◌<◌, ◌≤◌, cond, List, [], ◌∷◌, ◌++◌, length, take, drop, set, get_or, map, Bor, Option, Some, None, refl, sym, ap, ◌∙◌, subst, arith, Result, Ok, Err, add-one, ◌⊎◌, inr, ⊎_elim, true, false, ◌+◌}
+use Rattle.std.proofs.Common.{◌≡◌, ◌≢◌, ℕ, zero, suc, ◌-◌, ◌<◌, ◌≤◌, cond, List, [], ◌∷◌, ◌++◌, length, take, drop, set, get_or, map, Bor, Option, Some, None, refl, sym, ap, ◌∙◌, subst, arith, Result, Ok, Err, add-one, ◌⊎◌, inr, ⊎_elim, true, false, ◌+◌, ◌==◌, ◌&&◌}
 use Rattle.std.specs.Bool.{IsTrue}
 use Rattle.std.specs.Option.{option_or, is_some, option_copied}
 use Rattle.std.specs.Result.{OnOk}
 use Rattle.std.specs.FinMap.{get}
+use Rattle.std.proofs.Math.Dec.{eqb-suc-zero, eqb-zero-suc, eqb-suc-suc}
 use Rattle.rl_value.specs.Plain.{Plain}
 use Rattle.rl_store.specs.Scope.{Scope, changed, value_at, changed_at, value_of, place_of}
-use Rattle.rl_store.specs.Rooms.{Variables, Rooms, has_room, HasRoom}
+use Rattle.rl_store.specs.Rooms.{Variables, Rooms, LastNotes, has_room, HasRoom, last_note_in, last_note_at, KeepsLastNotes, SetsLastNote}
 
 abbrev pub scopes_of : List Variables → List Scope
 scopes_of vs = map (λ v. v.scope) vs
 
 abbrev pub rooms_in : List Variables → List (List ℕ)
 rooms_in vs = map (λ v. v.room) vs
+
+abbrev pub last_notes_in : List Variables → List LastNotes
+last_notes_in vs = map (λ v. v.last_notes) vs
 
 pub value_at-scopes_of : (vs : List Variables) (p x : ℕ) (d : Variables) → p < length vs → value_at (scopes_of vs) p x ≡ get (get_or vs p d).scope x
 value_at-scopes_of [] p x d h = absurd (omega arith)
@@ -87,7 +91,7 @@ length-scopes_of [] = refl
 length-scopes_of (v ∷ vs) = ap suc (length-scopes_of vs)
 
 abbrev pub whole : Variables → List Variables → Rooms
-whole f vs = record { scopes = f.scope ∷ scopes_of vs; rooms = f.room ∷ rooms_in vs }
+whole f vs = record { scopes = f.scope ∷ scopes_of vs; rooms = f.room ∷ rooms_in vs; last_notes = f.last_notes ∷ last_notes_in vs }
 
 pub inner_within : (f : Variables) (vs : List Variables) (r : Rooms) (p : ℕ) → whole f vs ≡ r → p ≢ 0 → p < length r.scopes → p - 1 < length vs
 inner_within f vs r p e n h = omega (arith, ap (λ (r : Rooms). length r.scopes) e, length-scopes_of vs)
@@ -228,3 +232,100 @@ step_down ss (suc p) x r h n e b =
 
 pub found : (ss : List Scope) (p x : ℕ) (r : Option (Bor Plain)) → value_of (drop (suc p) ss) x ≡ None → option_copied r ≡ value_at ss p x → is_some r ≡ true → place_of ss x ≡ p
 found ss p x r n e b = place_of-is ss p x n (inr (ap is_some (sym e) ∙ is_some-copied r ∙ b))
+
+-- last notes
+
+last_note_at-in : (vs : List Variables) (p x : ℕ) (d : Variables) → p < length vs → last_note_at (last_notes_in vs) p x ≡ last_note_in (get_or vs p d).last_notes x
+last_note_at-in [] p x d h = absurd (omega arith)
+last_note_at-in (v ∷ vs) zero x d h = refl
+last_note_at-in (v ∷ vs) (suc p) x d h = last_note_at-in vs p x d (omega arith)
+
+last_note_at-inner : (l : LastNotes) (ls : List LastNotes) (p x : ℕ) → p ≢ 0 → last_note_at (l ∷ ls) p x ≡ last_note_at ls (p - 1) x
+last_note_at-inner l ls zero x n = absurd (n refl)
+last_note_at-inner l ls (suc p) x n = ap (λ q. last_note_at ls q x) (sym (one_less p))
+
+pub inner_last_note : (f : Variables) (vs : List Variables) (r : Rooms) (p x : ℕ) (d : Variables) → whole f vs ≡ r → p ≢ 0 → p < length r.scopes → d ≡ get_or vs (p - 1) d → last_note_in d.last_notes x ≡ last_note_at r.last_notes p x
+inner_last_note f vs r p x d e n h i =
+    ap (λ (v : Variables). last_note_in v.last_notes x) i
+    ∙ sym (last_note_at-in vs (p - 1) x d (inner_within f vs r p e n h))
+    ∙ sym (last_note_at-inner f.last_notes (last_notes_in vs) p x n)
+    ∙ ap (λ (r : Rooms). last_note_at r.last_notes p x) e
+
+keeps-set : (vs : List Variables) (p : ℕ) (v d : Variables) → p < length vs → ((x : ℕ) → last_note_in v.last_notes x ≡ last_note_in (get_or vs p d).last_notes x) → KeepsLastNotes (last_notes_in vs) (last_notes_in (set vs p v))
+keeps-set [] p v d h e q x = absurd (omega arith)
+keeps-set (w ∷ vs) zero v d h e zero x = e x
+keeps-set (w ∷ vs) zero v d h e (suc q) x = refl
+keeps-set (w ∷ vs) (suc p) v d h e zero x = refl
+keeps-set (w ∷ vs) (suc p) v d h e (suc q) x = keeps-set vs p v d (omega arith) e q x
+
+keeps-first : (l : LastNotes) (ls ks : List LastNotes) → KeepsLastNotes ls ks → KeepsLastNotes (l ∷ ls) (l ∷ ks)
+keeps-first l ls ks k zero x = refl
+keeps-first l ls ks k (suc q) x = k q x
+
+pub inner_keeps : (f : Variables) (vs : List Variables) (r : Rooms) (p : ℕ) (v d : Variables) → whole f vs ≡ r → p - 1 < length vs → d ≡ get_or vs (p - 1) d → ((x : ℕ) → last_note_in v.last_notes x ≡ last_note_in d.last_notes x) → KeepsLastNotes r.last_notes (f.last_notes ∷ last_notes_in (set vs (p - 1) v))
+inner_keeps f vs r p v d e h i g =
+    let P : Rooms → Type 0 = λ r. KeepsLastNotes r.last_notes (f.last_notes ∷ last_notes_in (set vs (p - 1) v)) in
+    subst P e (keeps-first f.last_notes (last_notes_in vs) (last_notes_in (set vs (p - 1) v)) (keeps-set vs (p - 1) v d h (λ x. g x ∙ ap (λ (w : Variables). last_note_in w.last_notes x) i)))
+
+keeps_first_of : (f g : Variables) (vs : List Variables) → ((x : ℕ) → last_note_in g.last_notes x ≡ last_note_in f.last_notes x) → KeepsLastNotes (f.last_notes ∷ last_notes_in vs) (g.last_notes ∷ last_notes_in vs)
+keeps_first_of f g vs h zero x = h x
+keeps_first_of f g vs h (suc q) x = refl
+
+pub first_keeps : (f g : Variables) (vs : List Variables) (r : Rooms) → whole f vs ≡ r → ((x : ℕ) → last_note_in g.last_notes x ≡ last_note_in f.last_notes x) → KeepsLastNotes r.last_notes (g.last_notes ∷ last_notes_in vs)
+first_keeps f g vs r e h =
+    let P : Rooms → Type 0 = λ r. KeepsLastNotes r.last_notes (g.last_notes ∷ last_notes_in vs) in
+    subst P e (keeps_first_of f g vs h)
+
+-- of one scope, the variable has the last note l
+abbrev pub SetsLast : LastNotes → LastNotes → ℕ → ℕ → Type 0
+SetsLast old new variable l = (x : ℕ) → last_note_in new x ≡ cond (variable == x) l (last_note_in old x)
+
+sets_zero : (a b : LastNotes) (ls : List LastNotes) (x l : ℕ) → SetsLast a b x l → SetsLastNote (a ∷ ls) (b ∷ ls) zero x l
+sets_zero a b ls x l h zero y = h y
+sets_zero a b ls x l h (suc q) y = ap (λ b. cond (b && (x == y)) l (last_note_at ls q y)) (sym (eqb-zero-suc q))
+
+sets_suc : (a : LastNotes) (ls ks : List LastNotes) (p x l : ℕ) → SetsLastNote ls ks p x l → SetsLastNote (a ∷ ls) (a ∷ ks) (suc p) x l
+sets_suc a ls ks p x l h zero y = ap (λ b. cond (b && (x == y)) l (last_note_in a y)) (sym (eqb-suc-zero p))
+sets_suc a ls ks p x l h (suc q) y = h q y ∙ ap (λ b. cond (b && (x == y)) l (last_note_at ls q y)) (sym (eqb-suc-suc p q))
+
+sets-set : (vs : List Variables) (p x l : ℕ) (v d : Variables) → p < length vs → SetsLast (get_or vs p d).last_notes v.last_notes x l → SetsLastNote (last_notes_in vs) (last_notes_in (set vs p v)) p x l
+sets-set [] p x l v d h e = absurd (omega arith)
+sets-set (w ∷ vs) zero x l v d h e = sets_zero w.last_notes v.last_notes (last_notes_in vs) x l e
+sets-set (w ∷ vs) (suc p) x l v d h e = sets_suc w.last_notes (last_notes_in vs) (last_notes_in (set vs p v)) p x l (sets-set vs p x l v d (omega arith) e)
+
+sets-inner : (a : LastNotes) (ls ks : List LastNotes) (p x l : ℕ) → p ≢ 0 → SetsLastNote ls ks (p - 1) x l → SetsLastNote (a ∷ ls) (a ∷ ks) p x l
+sets-inner a ls ks zero x l n h = absurd (n refl)
+sets-inner a ls ks (suc p) x l n h = let P : ℕ → Type 0 = λ q. SetsLastNote ls ks q x l in sets_suc a ls ks p x l (subst P (one_less p) h)
+
+pub inner_sets : (f : Variables) (vs : List Variables) (r : Rooms) (p x l : ℕ) (v d : Variables) → whole f vs ≡ r → p ≢ 0 → p - 1 < length vs → d ≡ get_or vs (p - 1) d → SetsLast d.last_notes v.last_notes x l → SetsLastNote r.last_notes (f.last_notes ∷ last_notes_in (set vs (p - 1) v)) p x l
+inner_sets f vs r p x l v d e n h i s =
+    let P : Rooms → Type 0 = λ r. SetsLastNote r.last_notes (f.last_notes ∷ last_notes_in (set vs (p - 1) v)) p x l in
+    let D : Variables → Type 0 = λ w. SetsLast w.last_notes v.last_notes x l in
+    subst P e (sets-inner f.last_notes (last_notes_in vs) (last_notes_in (set vs (p - 1) v)) p x l n (sets-set vs (p - 1) x l v d h (subst D i s)))
+
+pub first_sets : (f g : Variables) (vs : List Variables) (r : Rooms) (p x l : ℕ) → whole f vs ≡ r → p ≡ 0 → SetsLast f.last_notes g.last_notes x l → SetsLastNote r.last_notes (g.last_notes ∷ last_notes_in vs) p x l
+first_sets f g vs r p x l e z s =
+    let P : Rooms × ℕ → Type 0 = λ t. SetsLastNote t.0.last_notes (g.last_notes ∷ last_notes_in vs) t.1 x l in
+    subst P (λ i. (e i, sym z i)) (sets_zero f.last_notes g.last_notes (last_notes_in vs) x l s)
+
+take-last_notes_in : (n : ℕ) (vs : List Variables) → last_notes_in (take n vs) ≡ take n (last_notes_in vs)
+take-last_notes_in zero vs = refl
+take-last_notes_in (suc n) [] = refl
+take-last_notes_in (suc n) (v ∷ vs) = ap (λ ls. v.last_notes ∷ ls) (take-last_notes_in n vs)
+
+pub front_last_notes : (f : Variables) (vs ws : List Variables) (r : Rooms) (n : ℕ) → whole f vs ≡ r → 1 ≤ n → ws ≡ take (n - 1) vs → f.last_notes ∷ last_notes_in ws ≡ take n r.last_notes
+front_last_notes f vs ws r zero e h i = absurd (omega arith)
+front_last_notes f vs ws r (suc n) e h i =
+    ap (λ ws. f.last_notes ∷ last_notes_in ws) (i ∙ ap (λ m. take m vs) (one_less n))
+    ∙ ap (λ ls. f.last_notes ∷ ls) (take-last_notes_in n vs) ∙ ap (λ (r : Rooms). take (suc n) r.last_notes) e
+
+keeps-push : (vs : List Variables) (v : Variables) → v.last_notes ≡ [] → KeepsLastNotes (last_notes_in vs) (last_notes_in (vs ++ v ∷ []))
+keeps-push [] v e zero x = ap (λ l. last_note_in l x) e
+keeps-push [] v e (suc q) x = refl
+keeps-push (w ∷ vs) v e zero x = refl
+keeps-push (w ∷ vs) v e (suc q) x = keeps-push vs v e q x
+
+pub push_keeps : (f : Variables) (vs ws : List Variables) (v : Variables) (r : Rooms) → whole f vs ≡ r → ws ≡ vs ++ v ∷ [] → v.last_notes ≡ [] → KeepsLastNotes r.last_notes (f.last_notes ∷ last_notes_in ws)
+push_keeps f vs ws v r e i h =
+    let P : Rooms × List Variables → Type 0 = λ t. KeepsLastNotes t.0.last_notes (f.last_notes ∷ last_notes_in t.1) in
+    subst P (λ j. (e j, sym i j)) (keeps-first f.last_notes (last_notes_in vs) (last_notes_in (vs ++ v ∷ [])) (keeps-push vs v h))

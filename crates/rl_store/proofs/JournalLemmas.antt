@@ -50,7 +50,7 @@ later_found : (b : Bool) (o : Option Plain) (f : Option (Option Plain)) → IsSo
 later_found true o f h = refl
 later_found false o f h = h
 
-find-slice_get : (notes : List Note) (from i place variable : ℕ) → from ≤ i → is_of (slice_get notes i) place variable ≡ true → IsSome (find key_cmp (place, variable) (entries_of (drop from notes)))
+pub find-slice_get : (notes : List Note) (from i place variable : ℕ) → from ≤ i → is_of (slice_get notes i) place variable ≡ true → IsSome (find key_cmp (place, variable) (entries_of (drop from notes)))
 find-slice_get [] from i place variable h e = (cc)
 find-slice_get (n ∷ notes) zero zero place variable h e = found_first n place variable (entries_of notes) e
 find-slice_get (n ∷ notes) zero (suc i) place variable h e =

@@ -34,13 +34,13 @@ shifted m n Less h = omega arith
 shifted m n Equal h = ap suc h
 shifted m n Greater h = omega arith
 
-nat_cmp-suc : (m n : ℕ) → nat_cmp (suc m) (suc n) ≡ nat_cmp m n
+pub nat_cmp-suc : (m n : ℕ) → nat_cmp (suc m) (suc n) ≡ nat_cmp m n
 nat_cmp-suc m n = sym (nat_cmp_is (suc m) (suc n) (nat_cmp m n) (shifted m n (nat_cmp m n) (ranked m n (nat_cmp m n) refl)))
 
-nat_cmp-zero_suc : (n : ℕ) → nat_cmp zero (suc n) ≡ Less
+pub nat_cmp-zero_suc : (n : ℕ) → nat_cmp zero (suc n) ≡ Less
 nat_cmp-zero_suc n = sym (nat_cmp_is zero (suc n) Less (omega arith))
 
-nat_cmp-suc_zero : (n : ℕ) → nat_cmp (suc n) zero ≡ Greater
+pub nat_cmp-suc_zero : (n : ℕ) → nat_cmp (suc n) zero ≡ Greater
 nat_cmp-suc_zero n = sym (nat_cmp_is (suc n) zero Greater (omega arith))
 
 pub get-changed : (s : Scope) (x : ℕ) (o : Option Plain) (y : ℕ) → get (changed s x o) y ≡ cond (is_eq (nat_cmp y x)) o (get s y)

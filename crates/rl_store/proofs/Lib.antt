@@ -1,5 +1,6 @@
 pub mod Inner
 pub mod JournalLemmas
+pub mod LastNotes
 pub mod Laying
 pub mod SlotsLemmas
 pub mod StoreLemmas

@@ -1,9 +1,9 @@
 -- The variables of one scope, after a change of its map.
-use Rattle.std.proofs.Common.{◌≡◌, ℕ, Bool, true, false, cond, List, [], ◌∷◌, Option, Some, None, Result, Ok, Err, refl, sym, ap, ◌∙◌, subst}
+use Rattle.std.proofs.Common.{◌≡◌, ℕ, ◌==◌, Bool, true, false, cond, List, [], ◌∷◌, Option, Some, None, Result, Ok, Err, refl, sym, ap, ◌∙◌, subst, eqb-true}
 use Rattle.std.specs.Bool.{IsTrue}
-use Rattle.std.specs.Option.{is_some, IsSome}
+use Rattle.std.specs.Option.{is_some, IsSome, unwrap_or}
 use Rattle.std.specs.Ordering.{nat_cmp, is_eq, eq_by_cmp}
-use Rattle.std.specs.Cmp.{eq_by_cmp_equiv, nat_cmp_total}
+use Rattle.std.specs.Cmp.{nat_cmp_total}
 use Rattle.std.specs.Map.{lookup}
 use Rattle.std.specs.BTreeMap.{BTreeMap, Updates, is_at}
 use Rattle.std.specs.BTreeMap as tree
@@ -12,9 +12,10 @@ use Rattle.std.proofs.lemmas.Map.Made.{is_some-lookup}
 use Rattle.rl_value.specs.Plain.{Plain}
 use Rattle.rl_store.specs.declared.slots.Slot.{Slot}
 use Rattle.rl_store.specs.Scope.{Scope, changed}
-use Rattle.rl_store.specs.Rooms.{has_room}
-use Rattle.rl_store.specs.Slots.{values_of, rooms_of, value_in}
+use Rattle.rl_store.specs.Rooms.{has_room, last_note_in}
+use Rattle.rl_store.specs.Slots.{values_of, rooms_of, last_notes_of, value_in}
 use Rattle.rl_store.proofs.Laying.{get-changed, is_eq-Equal}
+use Rattle.rl_store.proofs.LastNotes.{turned, nat_cmp-eqb}
 
 cond-value_in : (b : Bool) (s : Slot) (o : Option Slot) → cond b s.value (value_in o) ≡ value_in (cond b (Some s) o)
 cond-value_in true s o = refl
@@ -26,9 +27,6 @@ get-values_of x (e ∷ es) =
     get-changed (values_of es) e.0 e.1.value x
     ∙ ap (cond (is_eq (nat_cmp x e.0)) e.1.value) (get-values_of x es)
     ∙ cond-value_in (is_eq (nat_cmp x e.0)) e.1 (lookup (is_at (nat_cmp x)) es)
-
-turned : (x y : ℕ) → is_eq (nat_cmp x y) ≡ is_eq (nat_cmp y x)
-turned = (eq_by_cmp_equiv nat_cmp_total).symm
 
 pub values-insert : (m n : BTreeMap ℕ Slot) (k : ℕ) (s : Slot) → Updates nat_cmp m n k (Some s) → values_of n.entries ≡ changed (values_of m.entries) k s.value
 values-insert m n k s u = same_map nat_cmp_total nat_cmp-IsAntisymmetric _ _ (λ q.
@@ -81,3 +79,64 @@ IsSome-is_some (Some s) h = refl
 
 pub was_known : (m : BTreeMap ℕ Slot) (x : ℕ) (o : Option Slot) → IsTrue (has_room (rooms_of m.entries) x) → o ≡ tree.get nat_cmp m x → IsSome o
 was_known m x o h e = IsSome-is_some o (ap is_some e ∙ sym (has_room-get m x) ∙ h)
+
+-- one more than the place of the last note of the slot's variable
+abbrev pub last_in : Option Slot → ℕ
+last_in None = 0
+last_in (Some s) = s.last_note
+
+last_step : (b : Bool) (s : Slot) (o : Option ℕ) (r : Option Slot) → unwrap_or o 0 ≡ last_in r → unwrap_or (cond b (Some s.last_note) o) 0 ≡ last_in (cond b (Some s) r)
+last_step true s o r h = refl
+last_step false s o r h = h
+
+pub last_note_in-last_notes_of : (x : ℕ) (es : List (ℕ × Slot)) → last_note_in (last_notes_of es) x ≡ last_in (lookup (is_at (nat_cmp x)) es)
+last_note_in-last_notes_of x [] = refl
+last_note_in-last_notes_of x (e ∷ es) = last_step (is_eq (nat_cmp x e.0)) e.1 (lookup (is_at (nat_cmp x)) (last_notes_of es)) (lookup (is_at (nat_cmp x)) es) (last_note_in-last_notes_of x es)
+
+last_in-cond : (b : Bool) (s : Slot) (o : Option Slot) → last_in (cond b (Some s) o) ≡ cond b s.last_note (last_in o)
+last_in-cond true s o = refl
+last_in-cond false s o = refl
+
+pub last_notes-insert : (m n : BTreeMap ℕ Slot) (k : ℕ) (s : Slot) → Updates nat_cmp m n k (Some s) → (q : ℕ) → last_note_in (last_notes_of n.entries) q ≡ cond (k == q) s.last_note (last_note_in (last_notes_of m.entries) q)
+last_notes-insert m n k s u q =
+    last_note_in-last_notes_of q n.entries
+    ∙ ap last_in (u.0 q)
+    ∙ last_in-cond (is_eq (nat_cmp k q)) s (tree.get nat_cmp m q)
+    ∙ ap (λ b. cond b s.last_note (last_in (tree.get nat_cmp m q))) (nat_cmp-eqb k q)
+    ∙ ap (cond (k == q) s.last_note) (sym (last_note_in-last_notes_of q m.entries))
+
+same_last : (b : Bool) (n l : ℕ) → (b ≡ true → n ≡ l) → cond b n l ≡ l
+same_last true n l h = h refl
+same_last false n l h = refl
+
+no_last : (o : Option Slot) → is_some o ≡ false → last_in o ≡ 0
+no_last None h = refl
+no_last (Some s) h = (cc)
+
+-- room for a variable that has none is no note
+pub last_notes-room : (m n : BTreeMap ℕ Slot) (k : ℕ) (s : Slot) → Updates nat_cmp m n k (Some s) → s.last_note ≡ 0 → is_some (tree.get nat_cmp m k) ≡ false → (q : ℕ) → last_note_in (last_notes_of n.entries) q ≡ last_note_in (last_notes_of m.entries) q
+last_notes-room m n k s u v h q =
+    last_notes-insert m n k s u q
+    ∙ same_last (k == q) s.last_note (last_note_in (last_notes_of m.entries) q) (λ e.
+    v ∙ sym (no_last (tree.get nat_cmp m k) h) ∙ sym (last_note_in-last_notes_of k m.entries) ∙ ap (last_note_in (last_notes_of m.entries)) (eqb-true k q e))
+
+same_at : (b : Bool) (o p : Option Plain) → (b ≡ true → o ≡ p) → cond b o p ≡ p
+same_at true o p h = h refl
+same_at false o p h = refl
+
+known_value : (s : Slot) (o : Option Slot) → Some s ≡ o → value_in o ≡ s.value
+known_value s o e = sym (ap value_in e)
+
+-- a slot with the value that it had
+pub values-same : (m n : BTreeMap ℕ Slot) (k : ℕ) (s t : Slot) → Updates nat_cmp m n k (Some t) → Some s ≡ tree.get nat_cmp m k → t.value ≡ s.value → values_of n.entries ≡ values_of m.entries
+values-same m n k s t u h v = values-insert m n k t u ∙ same_map nat_cmp_total nat_cmp-IsAntisymmetric _ _ (λ q.
+    get-changed (values_of m.entries) k t.value q
+    ∙ same_at (is_eq (nat_cmp q k)) t.value (get (values_of m.entries) q) (λ e.
+    v ∙ sym (known_value s (tree.get nat_cmp m k) h) ∙ sym (get-values_of k m.entries) ∙ ap (get (values_of m.entries)) (sym (nat_cmp-IsAntisymmetric q k (is_eq-Equal _ e)))))
+
+some_known : (s : Slot) (o : Option Slot) → Some s ≡ o → IsSome o
+some_known s None e = (cc)
+some_known s (Some t) e = refl
+
+pub is_known : (m : BTreeMap ℕ Slot) (x : ℕ) (s : Slot) → Some s ≡ tree.get nat_cmp m x → IsSome (tree.get nat_cmp m x)
+is_known m x s e = some_known s (tree.get nat_cmp m x) e

@@ -14,12 +14,13 @@ use Rattle.rl_value.specs.Plain.{Plain}
 use Rattle.rl_store.specs.Scope.{Scope, value_at, changed_at}
 use Rattle.rl_store.specs.Rooms.{HasRoom}
 use Rattle.rl_store.specs.Store.{Key, key_cmp, Noted, Mark, laid, laid_entries, note, noting, joined, without_newest}
-use Rattle.rl_store.specs.Journal.{entry_of, entries_of, is_noted, is_taken, HasRoomIn, Notes, marks_of, IsJournal}
+use Rattle.rl_store.specs.Journal.{entry_of, entries_of, is_noted, is_taken, HasRoomIn, Notes, marks_of, IsJournal, HasNoNote, IsLinked, AreNotedOnce}
 use Rattle.rl_store.specs.declared.journal.Note.{Note}
 use Rattle.rl_store.specs.declared.journal.MarkAt.{MarkAt}
 use Rattle.rl_store.proofs.Inner.{HasRoom-take}
 use Rattle.rl_store.proofs.Laying.{key_total, key_same, is_eq-Equal, same_scopes, length-changed_at, value_at-changed_at, value_at-laid, length-laid, laid-from_entries, value_at-take, take-changed_at}
 use Rattle.rl_store.proofs.JournalLemmas.{entries_of-push, find-taken, both}
+use Rattle.rl_store.proofs.LastNotes.{once_push, taken_once, taken_linked}
 
 option_or-cond : (b : Bool) (o : Option Plain) (f g : Option (Option Plain)) → cond b (Some o) (option_or f g) ≡ option_or (cond b (Some o) f) g
 option_or-cond true o f g = refl
@@ -72,7 +73,7 @@ noted_after m k o old new h (inl (e, inr has)) =
     let N : Noted = noted_in m.notes old in
     let i : IsSome (get N k) = rw (get-from_entries key_total (entries_of (drop m.notes old)) k) has in
     ap (noted_in m.notes) e ∙ same_cond (nat_lt k.0 m.scopes) (note N k o) N (known N k o i)
-noted_after m k o old new h (inr (n, e, en, lt)) =
+noted_after m k o old new h (inr (n, e, en, lt, new_one, linked)) =
     rw (lt-ltb k.0 m.scopes lt)
     (ap (noted_in m.notes) e
     ∙ ap (λ ns. from_entries (entries_of ns)) (drop-append-le m.notes old (n ∷ []) h)
@@ -82,7 +83,7 @@ noted_after m k o old new h (inr (n, e, en, lt)) =
 
 front_after : (m : MarkAt) (k : Key) (o : Option Plain) (old new : List Note) → m.notes ≤ length old → Notes m k o old new → take m.notes new ≡ take m.notes old
 front_after m k o old new h (inl (e, x)) = ap (take m.notes) e
-front_after m k o old new h (inr (n, e, en, lt)) = ap (take m.notes) e ∙ take-append-le m.notes old (n ∷ []) h
+front_after m k o old new h (inr (n, e, en, lt, new_one, linked)) = ap (take m.notes) e ∙ take-append-le m.notes old (n ∷ []) h
 
 kept_value : (F : Option (Option Plain)) (v w : Option Plain) (e : Bool) → unwrap_or (option_or F (cond e (Some w) None)) (cond e v w) ≡ unwrap_or F w
 kept_value None v w true = refl
@@ -231,7 +232,7 @@ marks-rollback m ms notes ss ts e = e ∙ sym (laid-from_entries (entries_of (dr
 
 pub IsJournal-grow : (ms : List MarkAt) (notes : List Note) (a b : ℕ) → a ≤ b → IsJournal ms notes a → IsJournal ms notes b
 IsJournal-grow [] notes a b h j = j
-IsJournal-grow (m ∷ ms) notes a b h j = (j.0, omega (arith, j.1), j.2, j.3, j.4)
+IsJournal-grow (m ∷ ms) notes a b h j = (j.0, omega (arith, j.1), j.2, j.3, j.4, j.5, j.6)
 
 all_parts : (P : Note → Type 0) (n : ℕ) (notes : List Note) → All P (take n notes) → All P (drop n notes) → All P notes
 all_parts P n notes a b = subst (All P) (take-append-drop n notes) (All-append P (take n notes) (drop n notes) a b)
@@ -244,19 +245,34 @@ IsJournal-places (m ∷ ms) notes count j =
 
 pub IsJournal-set : (m : MarkAt) (ms : List MarkAt) (k : Key) (o : Option Plain) (old new : List Note) (count : ℕ) → Notes m k o old new → IsJournal (m ∷ ms) old count → IsJournal (m ∷ ms) new count
 IsJournal-set m ms k o old new count (inl (e, x)) j = let P : List Note → Type 0 = λ ns. IsJournal (m ∷ ms) ns count in subst P (sym e) j
-IsJournal-set m ms k o old new count (inr (n, e, en, lt)) j =
+IsJournal-set m ms k o old new count (inr (n, e, en, lt, new_one, linked)) j =
     let P : List Note → Type 0 = λ ns. IsJournal (m ∷ ms) ns count in
     let Q : Note → Type 0 = λ n. n.place < m.scopes in
     let R : List Note → Type 0 = λ ns. IsJournal ms ns m.scopes in
     let place : n.place < m.scopes = omega (arith, lt, ap (λ (d : Key × Option Plain). d.0.0) en) in
-    subst P (sym e)
-    (j.0, j.1, omega (arith, j.2, length-append old (n ∷ [])), subst (All Q) (sym (drop-append-le m.notes old (n ∷ []) j.2)) (All-push Q (drop m.notes old) n j.3 place), subst R (sym (take-append-le m.notes old (n ∷ []) j.2)) j.4)
+    let same : k ≡ (n.place, n.variable) = sym (ap (λ (d : Key × Option Plain). d.0) en) in
+    let none : HasNoNote (drop m.notes old) (n.place, n.variable) = subst (HasNoNote (drop m.notes old)) same new_one in
+    let S : List Note → Type 0 = λ ns. AreNotedOnce ns in
+    let T : (List Note) × List Note → Type 0 = λ t. All (IsLinked t.0) t.1 in
+    let back : drop m.notes (old ++ n ∷ []) ≡ drop m.notes old ++ n ∷ [] = drop-append-le m.notes old (n ∷ []) j.2 in
+    let front : take m.notes (old ++ n ∷ []) ≡ take m.notes old = take-append-le m.notes old (n ∷ []) j.2 in
+    subst P (sym e) (
+      j.0,
+      j.1,
+      omega (arith, j.2, length-append old (n ∷ [])),
+      subst (All Q) (sym back) (All-push Q (drop m.notes old) n j.3 place),
+      subst R (sym front) j.4,
+      subst S (sym back) (once_push (drop m.notes old) n j.5 none),
+      subst T (λ i. (sym front i, sym back i)) (All-push (IsLinked (take m.notes old)) (drop m.notes old) n j.6 linked),
+    )
 
 pub IsJournal-mark : (ms : List MarkAt) (notes : List Note) (count : ℕ) → 1 ≤ count → IsJournal ms notes count → IsJournal (record { scopes = count; notes = length notes } ∷ ms) notes count
 IsJournal-mark ms notes count h j =
     let Q : Note → Type 0 = λ n. n.place < count in
     let R : List Note → Type 0 = λ ns. IsJournal ms ns count in
-    (h, omega arith, omega arith, subst (All Q) (sym (drop-length notes)) (All-nil Q), subst R (sym (take-length notes)) j)
+    let S : List Note → Type 0 = λ ns. AreNotedOnce ns in
+    let T : Note → Type 0 = IsLinked (take (length notes) notes) in
+    (h, omega arith, omega arith, subst (All Q) (sym (drop-length notes)) (All-nil Q), subst R (sym (take-length notes)) j, subst S (sym (drop-length notes)) tt, subst (All T) (sym (drop-length notes)) (All-nil T))
 
 taken_place : (front : List Note) (l : MarkAt) (notes : List Note) → All (λ n. n.place < l.scopes) (filter (is_taken front l) notes)
 taken_place front l notes =
@@ -267,19 +283,25 @@ IsJournal-release l u ms notes count j =
     let A : List Note = take u.notes notes in
     let F : List Note = filter (is_taken A l) (drop u.notes notes) in
     let Q : Note → Type 0 = λ n. n.place < l.scopes in
-    let R : List Note → Type 0 = λ ns. IsJournal ms ns l.scopes in (
+    let R : List Note → Type 0 = λ ns. IsJournal ms ns l.scopes in
+    let S : List Note → Type 0 = λ ns. AreNotedOnce ns in
+    let T : (List Note) × List Note → Type 0 = λ t. All (IsLinked t.0) t.1 in
+    let back : drop l.notes (A ++ F) ≡ drop l.notes A ++ F = drop-append-le l.notes A F j.4.2 in
+    let front : take l.notes (A ++ F) ≡ take l.notes A = take-append-le l.notes A F j.4.2 in (
       j.4.0,
       omega (arith, j.1, j.4.1),
       omega (arith, j.4.2, length-append A F),
-      subst (All Q) (sym (drop-append-le l.notes A F j.4.2)) (All-append Q (drop l.notes A) F j.4.3 (taken_place A l (drop u.notes notes))),
-      subst R (sym (take-append-le l.notes A F j.4.2)) j.4.4,
+      subst (All Q) (sym back) (All-append Q (drop l.notes A) F j.4.3 (taken_place A l (drop u.notes notes))),
+      subst R (sym front) j.4.4,
+      subst S (sym back) (taken_once A l (drop u.notes notes) j.6 j.4.5 j.5),
+      subst T (λ i. (sym front i, sym back i)) (taken_linked A l (drop u.notes notes) j.6 j.4.6),
     )
 
 -- the variables of the notes keep their room
 pub room-set : (m : MarkAt) (p x : ℕ) (o : Option Plain) (old new : List Note) (rs qs : List (List ℕ)) → Notes m (p, x) o old new → ((q y : ℕ) → HasRoom rs q y → HasRoom qs q y) → HasRoom qs p x → All (HasRoomIn rs) old → All (HasRoomIn qs) new
 room-set m p x o old new rs qs (inl (e, c)) stays here a =
     subst (All (HasRoomIn qs)) (sym e) (All-weaker (HasRoomIn rs) (HasRoomIn qs) (λ n h. stays n.place n.variable h) old a)
-room-set m p x o old new rs qs (inr (n, e, en, lt)) stays here a =
+room-set m p x o old new rs qs (inr (n, e, en, lt, new_one, linked)) stays here a =
     let P : Key → Type 0 = λ k. HasRoom qs k.0 k.1 in
     subst (All (HasRoomIn qs)) (sym e)
     (All-push (HasRoomIn qs) old n (All-weaker (HasRoomIn rs) (HasRoomIn qs) (λ n h. stays n.place n.variable h) old a) (subst P (sym (ap (λ (d : Key × Option Plain). d.0) en)) here))

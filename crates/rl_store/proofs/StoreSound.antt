@@ -1,5 +1,5 @@
 -- What a store stands for, after each call.
-use Rattle.std.proofs.Common.{◌≡◌, ℕ, zero, suc, ◌+◌, ◌-◌, ◌<◌, ◌≤◌, ◌↔◌, List, [], ◌∷◌, ◌++◌, length, take, drop, reverse, Option, Some, None, refl, sym, ap, ◌∙◌, subst, arith}
+use Rattle.std.proofs.Common.{◌≡◌, ℕ, zero, suc, ◌+◌, ◌-◌, ◌<◌, ◌≤◌, ◌↔◌, List, [], ◌∷◌, ◌++◌, length, take, drop, reverse, Option, Some, None, refl, sym, ap, ◌∙◌, subst, arith, ◌==◌, ◌&&◌, false, inl, inr}
 use Rattle.std.specs.Option.{option_to_list}
 use Rattle.std.specs.List.{All}
 use Rattle.std.specs.FinMap.{empty}
@@ -7,12 +7,13 @@ use Rattle.std.proofs.lemmas.List.{take-append-le, length-take-le, reverse-appen
 use Rattle.std.proofs.lemmas.List.Elements.{All-nil, All-take}
 use Rattle.rl_value.specs.Plain.{Plain}
 use Rattle.rl_store.specs.Scope.{Scope, value_at, changed_at}
-use Rattle.rl_store.specs.Rooms.{HasRoom}
+use Rattle.rl_store.specs.Rooms.{LastNotes, last_note_at, HasRoom, KeepsLastNotes, SetsLastNote}
 use Rattle.rl_store.specs.Store.{PlainStore, Mark, Key, laid, laid_entries, noting, setting, opened, closed, marked, rolled_back, released, without_newest, IsClosable, IsOpenedSince, HasMark, IsLaid}
-use Rattle.rl_store.specs.Journal.{entries_of, HasRoomIn, newest_first, marks_of, IsJournal, Notes, NotesSince, passed_down, floor_of}
+use Rattle.rl_store.specs.Journal.{entries_of, HasRoomIn, newest_first, marks_of, IsJournal, IsLast, AreLast, Notes, NotesSince, passed_down, floor_of}
 use Rattle.rl_store.specs.declared.journal.Note.{Note}
 use Rattle.rl_store.specs.declared.journal.MarkAt.{MarkAt}
 use Rattle.rl_store.proofs.Laying.{length-laid, length-changed_at}
+use Rattle.rl_store.proofs.LastNotes.{are_last_set, are_last_keeps, are_last_take, last_more, no_note_cons}
 use Rattle.rl_store.proofs.StoreLemmas.{noted_in, marks-set, marks-mark, marks-same, marks-release, marks-rollback, IsJournal-grow, IsJournal-places, IsJournal-set, IsJournal-mark, IsJournal-release, room-set, room-stays, room-take, room-release}
 
 abbrev pub seen : List Scope → List Note → List MarkAt → PlainStore
@@ -51,6 +52,22 @@ journal_set newest older old new ss ts us p x o w j a b c =
 pub room_set : (newest : Option MarkAt) (p x : ℕ) (o : Option Plain) (old new : List Note) (rs qs ts : List (List ℕ)) → NotesSince newest (p, x) o old new → ((q y : ℕ) → HasRoom rs q y → HasRoom qs q y) → HasRoom qs p x → ts ≡ qs → All (HasRoomIn rs) old → All (HasRoomIn ts) new
 room_set newest p x o old new rs qs ts c stays here e a = let P : List (List ℕ) → Type 0 = λ ts. All (HasRoomIn ts) new in subst P (sym e) (room_notes newest p x o old new rs qs c stays here a)
 
+other_last : (m : MarkAt) (p x : ℕ) (o : Option Plain) (old new : List Note) (l q y : ℕ) → Notes m (p, x) o old new → ((p == q) && (x == y)) ≡ false → IsLast old l q y → IsLast new l q y
+other_last m p x o old new l q y (inl (e, c)) b h = let P : List Note → Type 0 = λ ns. IsLast ns l q y in subst P (sym e) h
+other_last m p x o old new l q y (inr (n, e, en, lt, new_one, linked)) b h =
+    let P : List Note → Type 0 = λ ns. IsLast ns l q y in
+    let Q : Key → Type 0 = λ k. ((k.0 == q) && (k.1 == y)) ≡ false in
+    let same : (p, x) ≡ (n.place, n.variable) = sym (ap (λ (d : Key × Option Plain). d.0) en) in
+    subst P (sym e) (last_more old (n ∷ []) l q y (no_note_cons n [] (q, y) (subst Q same b) refl) h)
+
+other_last_since : (newest : Option MarkAt) (p x : ℕ) (o : Option Plain) (old new : List Note) (l q y : ℕ) → NotesSince newest (p, x) o old new → ((p == q) && (x == y)) ≡ false → IsLast old l q y → IsLast new l q y
+other_last_since None p x o old new l q y c b h = let P : List Note → Type 0 = λ ns. IsLast ns l q y in subst P (sym c) h
+other_last_since (Some m) p x o old new l q y c b h = other_last m p x o old new l q y c b h
+
+pub last_notes_set : (newest : Option MarkAt) (p x l : ℕ) (o : Option Plain) (old new : List Note) (hs ks ls : List LastNotes) → NotesSince newest (p, x) o old new → KeepsLastNotes hs ks → SetsLastNote ks ls p x l → IsLast new l p x → AreLast old hs → AreLast new ls
+last_notes_set newest p x l o old new hs ks ls c k s h a =
+    are_last_set new ks ls l p x s h (λ q y b. other_last_since newest p x o old new (last_note_at ks q y) q y c b (are_last_keeps old hs ks k a q y))
+
 -- open and close
 
 take-take : {A : Type 0} (n k : ℕ) (xs : List A) → n ≤ k → take n (take k xs) ≡ take n xs
@@ -69,7 +86,7 @@ seen_open ms notes ss ts s e j t =
 
 journal_close : (ms : List MarkAt) (notes : List Note) (ss : List Scope) → IsJournal ms notes (length ss) → IsOpenedSince (marks_of ms notes ss) (length ss) → IsJournal ms notes (length ss - 1)
 journal_close [] notes ss j h = j
-journal_close (m ∷ ms) notes ss j h = (j.0, omega (arith, h, length-laid (noted_in m.notes notes) (take m.scopes ss), length-take-le m.scopes ss j.1), j.2, j.3, j.4)
+journal_close (m ∷ ms) notes ss j h = (j.0, omega (arith, h, length-laid (noted_in m.notes notes) (take m.scopes ss), length-take-le m.scopes ss j.1), j.2, j.3, j.4, j.5, j.6)
 
 marks-close : (ms : List MarkAt) (notes : List Note) (ss : List Scope) (n : ℕ) → IsJournal ms notes n → marks_of ms notes (take n ss) ≡ marks_of ms notes ss
 marks-close [] notes ss n j = refl
@@ -105,6 +122,11 @@ closable_is None older notes ss s e h j =
 closable_is (Some m) older notes ss s e h j =
     let l : length (laid (noted_in m.notes notes) (take m.scopes ss)) ≡ m.scopes = length-laid (noted_in m.notes notes) (take m.scopes ss) ∙ length-take-le m.scopes ss j.1 in
     (λ i. subst IsClosable e (omega (arith, i, j.0), omega (arith, i, l)), λ k. omega (arith, l, (subst IsClosable (sym e) k).1))
+
+pub last_notes_closed : (ms : List MarkAt) (notes : List Note) (ss : List Scope) (s : PlainStore) (hs ks : List LastNotes) → seen ss notes ms ≡ s → IsJournal ms notes (length ss) → IsClosable s → ks ≡ take (length ss - 1) hs → AreLast notes hs → AreLast notes ks
+last_notes_closed ms notes ss s hs ks e j h q a =
+    let c : IsClosable (seen ss notes ms) = closable ms notes ss s e h in
+    are_last_take notes hs ks (length ss - 1) q (IsJournal-places ms notes (length ss - 1) (journal_close ms notes ss j c.1)) a
 
 -- mark
 
@@ -156,13 +178,18 @@ journal_rollback m ms notes new ss ts us j t u n =
 pub room_restore : (m : MarkAt) (ms : List MarkAt) (notes : List Note) (count : ℕ) (rs qs : List (List ℕ)) → IsJournal (m ∷ ms) notes count → qs ≡ take m.scopes rs → All (HasRoomIn rs) notes → All (HasRoomIn qs) notes
 room_restore m ms notes count rs qs j q a =
     let P : List (List ℕ) → Type 0 = λ ts. All (HasRoomIn ts) notes in
-    let i : IsJournal (m ∷ ms) notes m.scopes = (j.0, omega arith, j.2, j.3, j.4) in
+    let i : IsJournal (m ∷ ms) notes m.scopes = (j.0, omega arith, j.2, j.3, j.4, j.5, j.6) in
     subst P (sym q) (room-take notes rs m.scopes (IsJournal-places (m ∷ ms) notes m.scopes i) a)
 
 pub room_rollback : (m : MarkAt) (ms : List MarkAt) (notes new : List Note) (count : ℕ) (rs qs ts : List (List ℕ)) → IsJournal (m ∷ ms) notes count → qs ≡ take m.scopes rs → ts ≡ qs → new ≡ take m.notes notes → All (HasRoomIn rs) notes → All (HasRoomIn ts) new
 room_rollback m ms notes new count rs qs ts j q t n a =
     let P : List (List ℕ) → Type 0 = λ ts. All (HasRoomIn ts) new in
     subst P (sym t) (subst (All (HasRoomIn qs)) (sym n) (All-take (HasRoomIn qs) m.notes notes (room_restore m ms notes count rs qs j q a)))
+
+pub last_notes_restore : (m : MarkAt) (ms : List MarkAt) (notes : List Note) (count : ℕ) (hs ks : List LastNotes) → IsJournal (m ∷ ms) notes count → ks ≡ take m.scopes hs → AreLast notes hs → AreLast notes ks
+last_notes_restore m ms notes count hs ks j q a =
+    let i : IsJournal (m ∷ ms) notes m.scopes = (j.0, omega arith, j.2, j.3, j.4, j.5, j.6) in
+    are_last_take notes hs ks m.scopes q (IsJournal-places (m ∷ ms) notes m.scopes i) a
 
 -- release
 

@@ -4,7 +4,8 @@ ghost use Rattle.std.specs.Prelude.{◌≡◌, ◌≤◌, ◌<◌, ◌++◌, len
 ghost use Rattle.std.specs.Option.{option_copied, option_to_list};
 ghost use Rattle.rl_store.specs.Scope.{value_at};
 ghost use Rattle.rl_store.specs.Store.{laid_entries};
-ghost use Rattle.rl_store.specs.Journal.{floor_of, is_of, is_noted, is_taken, entries_of, HasRoomIn, Notes, NotesSince, passed_down};
+ghost use Rattle.rl_store.specs.Rooms.{last_note_at};
+ghost use Rattle.rl_store.specs.Journal.{floor_of, is_of, is_noted, is_taken, entries_of, HasRoomIn, IsLast, AreLast, IsLinked, Notes, NotesSince, passed_down};
 
 use crate::scopes::Scopes;
 use rl_value::Value;
@@ -81,7 +82,9 @@ fn note_under(
     place: usize,
     variable: usize,
 ) -> Result<usize, AllocError>
-    requires { place < length scopes.now.scopes }
+    requires place { place < length scopes.now.scopes }
+    requires last_note { IsLast notes.old.items (last_note_at scopes.now.last_notes place variable) place variable }
+    ensures last_note { IfOk result (λ last_note. IsLast notes.new.items last_note place variable) }
     ensures ok { OnOk result (Notes newest (place, variable) (value_at scopes.now.scopes place variable) notes.old.items notes.new.items) }
     ensures err { OnErr result (notes.new.items ≡ notes.old.items) }
 {
@@ -107,22 +110,27 @@ pub(crate) fn note_before(
     place: usize,
     variable: usize,
 ) -> Result<usize, AllocError>
-    requires { place < length scopes.now.scopes }
+    requires place { place < length scopes.now.scopes }
+    requires last_note { IsLast notes.old.items (last_note_at scopes.now.last_notes place variable) place variable }
+    ensures last_note { IfOk result (λ last_note. IsLast notes.new.items last_note place variable) }
     ensures ok { OnOk result (NotesSince newest (place, variable) (value_at scopes.now.scopes place variable) notes.old.items notes.new.items) }
     ensures err { OnErr result (notes.new.items ≡ notes.old.items) }
 {
     match newest {
         Some(newest) => note_under(scopes, notes, newest, place, variable),
-        None => Ok(0),
+        None => Ok(scopes.last_note(place, variable)),
     }
 }
 
 /// Gives the variables of the notes from `from` on back what they had, the last note first, and removes these notes.
 pub(crate) fn restore(scopes: &mut Scopes, notes: &mut Vec<Note>, from: usize)
-    requires { All (HasRoomIn scopes.old.rooms) notes.old.items }
+    requires room { All (HasRoomIn scopes.old.rooms) notes.old.items }
+    requires last_notes { AreLast notes.old.items scopes.old.last_notes }
+    requires linked { All (IsLinked (take from notes.old.items)) (drop from notes.old.items) }
     ensures scopes { scopes.new.scopes ≡ laid_entries (entries_of (drop from notes.old.items)) scopes.old.scopes }
     ensures rooms { scopes.new.rooms ≡ scopes.old.rooms }
     ensures notes { notes.new.items ≡ take from notes.old.items }
+    ensures last_notes { AreLast notes.new.items scopes.new.last_notes }
 {
     while notes.len() > from {
         if let Some(note) = notes.pop() {
@@ -131,38 +139,86 @@ pub(crate) fn restore(scopes: &mut Scopes, notes: &mut Vec<Note>, from: usize)
     }
 }
 
+// Makes the notes before `from` the last of their variables.
+fn unlink(scopes: &mut Scopes, notes: &[Note], from: usize)
+    requires room { All (HasRoomIn scopes.old.rooms) notes.now }
+    requires last_notes { AreLast notes.now scopes.old.last_notes }
+    requires linked { All (IsLinked (take from notes.now)) (drop from notes.now) }
+    ensures scopes { scopes.new.scopes ≡ scopes.old.scopes }
+    ensures rooms { scopes.new.rooms ≡ scopes.old.rooms }
+    ensures last_notes { AreLast (take from notes.now) scopes.new.last_notes }
+{
+    for i in from..notes.len() {
+        let note = &notes[i];
+        scopes.set_last_note(note.place, note.variable, note.earlier);
+    }
+}
+
+// Makes each of the notes from `from` on the last of its variable.
+fn link(scopes: &mut Scopes, notes: &[Note], from: usize)
+    requires room { All (HasRoomIn scopes.old.rooms) notes.now }
+    requires last_notes { AreLast (take from notes.now) scopes.old.last_notes }
+    ensures scopes { scopes.new.scopes ≡ scopes.old.scopes }
+    ensures rooms { scopes.new.rooms ≡ scopes.old.rooms }
+    ensures last_notes { AreLast notes.now scopes.new.last_notes }
+{
+    for i in from..notes.len() {
+        let note = &notes[i];
+        scopes.set_last_note(note.place, note.variable, i + 1);
+    }
+}
+
 // Moves the notes that the older mark takes to the front of `back`. Answers how many these are.
-fn settle(scopes: &Scopes, front: &[Note], back: &mut [Note], older: MarkAt) -> usize
+fn settle(front: &[Note], back: &mut [Note], older: MarkAt) -> usize
     ensures kept { take result back.new ≡ filter (is_taken front.now older) back.old }
     ensures within { result ≤ length back.old }
 {
     let mut kept = 0;
     for i in 0..back.len() {
         if is_taken(front, older, &back[i]) {
-            scopes.set_last_note(back[i].place, back[i].variable, front.len() + kept + 1);
             back.swap(kept, i);
             kept += 1;
-        } else {
-            scopes.set_last_note(back[i].place, back[i].variable, back[i].earlier);
         }
     }
     kept
 }
 
-// Gives the notes from `from` on to the older mark, and removes those that it does not take.
-fn give_down(scopes: &Scopes, notes: &mut Vec<Note>, older: MarkAt, from: usize)
+// Removes the notes from `from` on that the older mark does not take.
+fn keep_taken(notes: &mut Vec<Note>, older: MarkAt, from: usize)
     requires { from ≤ length notes.old.items }
     ensures { notes.new.items ≡ take from notes.old.items ++ filter (is_taken (take from notes.old.items) older) (drop from notes.old.items) }
 {
     let (front, back) = notes.split_at_mut(from);
-    let kept = settle(scopes, front, back, older);
+    let kept = settle(front, back, older);
     notes.truncate(from + kept);
 }
 
+// Gives the notes from `from` on to the older mark, and removes those that it does not take.
+fn give_down(scopes: &mut Scopes, notes: &mut Vec<Note>, older: MarkAt, from: usize)
+    requires within { from ≤ length notes.old.items }
+    requires room { All (HasRoomIn scopes.old.rooms) notes.old.items }
+    requires last_notes { AreLast notes.old.items scopes.old.last_notes }
+    requires linked { All (IsLinked (take from notes.old.items)) (drop from notes.old.items) }
+    ensures notes { notes.new.items ≡ take from notes.old.items ++ filter (is_taken (take from notes.old.items) older) (drop from notes.old.items) }
+    ensures scopes { scopes.new.scopes ≡ scopes.old.scopes }
+    ensures rooms { scopes.new.rooms ≡ scopes.old.rooms }
+    ensures last_notes { AreLast notes.new.items scopes.new.last_notes }
+{
+    unlink(scopes, notes, from);
+    keep_taken(notes, older, from);
+    link(scopes, notes, from);
+}
+
 /// Gives the notes from `from` on to the older mark, and removes those that it does not take, or all where there is none.
-pub(crate) fn pass_down(scopes: &Scopes, notes: &mut Vec<Note>, older: Option<MarkAt>, from: usize)
-    requires { from ≤ length notes.old.items }
-    ensures { notes.new.items ≡ passed_down older from notes.old.items }
+pub(crate) fn pass_down(scopes: &mut Scopes, notes: &mut Vec<Note>, older: Option<MarkAt>, from: usize)
+    requires within { from ≤ length notes.old.items }
+    requires room { All (HasRoomIn scopes.old.rooms) notes.old.items }
+    requires last_notes { AreLast notes.old.items scopes.old.last_notes }
+    requires linked { All (IsLinked (take from notes.old.items)) (drop from notes.old.items) }
+    ensures notes { notes.new.items ≡ passed_down older from notes.old.items }
+    ensures scopes { scopes.new.scopes ≡ scopes.old.scopes }
+    ensures rooms { scopes.new.rooms ≡ scopes.old.rooms }
+    ensures last_notes { AreLast notes.new.items scopes.new.last_notes }
 {
     match older {
         Some(older) => give_down(scopes, notes, older, from),

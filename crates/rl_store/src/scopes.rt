@@ -4,7 +4,7 @@ ghost use Rattle.std.specs.Prelude.{◌≡◌, ℕ, ◌<◌, ◌≤◌, [], ◌�
 ghost use Rattle.std.specs.Option.{option_copied};
 ghost use Rattle.std.specs.FinMap.{empty};
 ghost use Rattle.rl_store.specs.Scope.{value_at, changed_at, place_of};
-ghost use Rattle.rl_store.specs.Rooms.{HasRoom};
+ghost use Rattle.rl_store.specs.Rooms.{HasRoom, last_note_at, KeepsLastNotes, SetsLastNote};
 
 use crate::slots::Slots;
 use rl_value::Value;
@@ -31,6 +31,7 @@ impl Model for Scopes {
     ghost view = { λ s. record {
       scopes = s.first.scope ∷ map (λ v. v.scope) s.inner.items;
       rooms = s.first.room ∷ map (λ v. v.room) s.inner.items;
+      last_notes = s.first.last_notes ∷ map (λ v. v.last_notes) s.inner.items;
     } };
 }
 
@@ -69,6 +70,7 @@ impl Scopes {
     /// The last note of the variable in the scope with this place, as it was set, or 0.
     pub(crate) fn last_note(&self, place: usize, variable: usize) -> usize
         requires { place < length self.now.scopes }
+        ensures { result ≡ last_note_at self.now.last_notes place variable }
     {
         if place == 0 {
             self.first.last_note(variable)
@@ -95,6 +97,7 @@ impl Scopes {
         ensures scopes { self.new.scopes ≡ self.old.scopes }
         ensures room { OnOk result (HasRoom self.new.rooms place variable) }
         ensures stays { (p x : ℕ) → HasRoom self.old.rooms p x → HasRoom self.new.rooms p x }
+        ensures last_notes { KeepsLastNotes self.old.last_notes self.new.last_notes }
     {
         if place == 0 {
             self.first.make_room(variable)
@@ -114,6 +117,7 @@ impl Scopes {
         requires { HasRoom self.old.rooms place variable }
         ensures scopes { self.new.scopes ≡ changed_at self.old.scopes place variable value }
         ensures rooms { self.new.rooms ≡ self.old.rooms }
+        ensures last_notes { SetsLastNote self.old.last_notes self.new.last_notes place variable last_note }
     {
         if place == 0 {
             self.first.set(variable, value, last_note)
@@ -122,11 +126,16 @@ impl Scopes {
         }
     }
 
-    /// Sets the last note of a variable that has room in the scope with this place.
-    pub(crate) fn set_last_note(&self, place: usize, variable: usize, last_note: usize) {
+    /// Sets the last note of the variable of the scope with this place.
+    pub(crate) fn set_last_note(&mut self, place: usize, variable: usize, last_note: usize)
+        requires { HasRoom self.old.rooms place variable }
+        ensures scopes { self.new.scopes ≡ self.old.scopes }
+        ensures rooms { self.new.rooms ≡ self.old.rooms }
+        ensures last_notes { SetsLastNote self.old.last_notes self.new.last_notes place variable last_note }
+    {
         if place == 0 {
             self.first.set_last_note(variable, last_note)
-        } else if place <= self.inner.len() {
+        } else {
             self.inner[place - 1].set_last_note(variable, last_note)
         }
     }
@@ -136,6 +145,7 @@ impl Scopes {
         ensures ok { OnOk result (self.new.scopes ≡ self.old.scopes ++ empty ∷ []) }
         ensures err { OnErr result (self.new ≡ self.old) }
         ensures stays { (p x : ℕ) → HasRoom self.old.rooms p x → HasRoom self.new.rooms p x }
+        ensures last_notes { KeepsLastNotes self.old.last_notes self.new.last_notes }
     {
         self.inner.push(Slots::new(self.alloc))?;
         Ok(())
@@ -146,6 +156,7 @@ impl Scopes {
         requires { 1 ≤ count }
         ensures scopes { self.new.scopes ≡ take count self.old.scopes }
         ensures rooms { self.new.rooms ≡ take count self.old.rooms }
+        ensures last_notes { self.new.last_notes ≡ take count self.old.last_notes }
     {
         self.inner.truncate(count - 1)
     }

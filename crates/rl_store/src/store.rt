@@ -153,7 +153,7 @@ impl Store {
     {
         if let Some(mark) = self.newest {
             self.newest = self.older.pop();
-            pass_down(&self.scopes, &mut self.notes, self.newest, mark.notes);
+            pass_down(&mut self.scopes, &mut self.notes, self.newest, mark.notes);
         }
     }
 }

@@ -1,15 +1,13 @@
-use Rattle.std.proofs.Common.{◌+◌, ◌++◌, length, take, drop, ap, ◌∙◌, arith, length-append}
-use Rattle.rl_store.proofs.JournalLemmas.{parts_joined, written_over}
+use Rattle.std.proofs.Common.{◌≡◌, List, ℕ, take, sym, ap, ◌∙◌, subst}
+use Rattle.std.specs.List.{All}
+use Rattle.rl_store.specs.Journal.{HasRoomIn}
+use Rattle.rl_store.specs.declared.journal.Note.{Note}
+use Rattle.rl_store.proofs.StoreLemmas.{room-release}
 use Rattle.rl_store.proofs.journal.give_down.Goals as goal
 
-pub returns : goal.returns
-returns c =
-    c.truncate.ensures.items
-    ∙ ap (take (c.args.from + c.settle-kept.result))
-    (written_over (c.split_at_mut-front.result.0.now ++ c.settle-kept.new.back) c.args.notes.now.items _
-    (omega (arith, length-append c.split_at_mut-front.result.0.now c.settle-kept.new.back, c.split_at_mut-front.ensures.front_len, c.split_at_mut-front.ensures.back_len, c.settle-kept.auto.back, c.deref_mut.ensures.len))
-    (omega (arith, ap length c.deref_mut.ensures.value, c.deref_mut.ensures.len)))
-    ∙ parts_joined c.args.notes.now.items c.split_at_mut-front.result.0.now c.split_at_mut-front.result.1.now c.settle-kept.new.back c.args.from c.settle-kept.result c.args.older
-    (c.split_at_mut-front.ensures.front ∙ ap (take c.args.from) c.deref_mut.ensures.value)
-    (c.split_at_mut-front.ensures.back ∙ ap (drop c.args.from) c.deref_mut.ensures.value)
-    c.split_at_mut-front.ensures.front_len c.settle-kept.ensures.kept
+pub link-requires-clause-room : goal.link-requires-clause-room
+link-requires-clause-room c =
+    let P : List Note → Type 0 = λ ns. All (HasRoomIn c.unlink.new.scopes.rooms) ns in
+    let Q : List (List ℕ) → Type 0 = λ rs. All (HasRoomIn rs) c.args.notes.now.items in
+    subst P (sym (c.deref-2.ensures.value ∙ c.keep_taken.ensures))
+    (room-release (take c.args.from c.args.notes.now.items) c.args.older c.args.from c.args.notes.now.items c.unlink.new.scopes.rooms (subst Q (sym c.unlink.ensures.rooms) c.requires.room))

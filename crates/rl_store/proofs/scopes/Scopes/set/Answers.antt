@@ -1,7 +1,7 @@
 use Rattle.std.proofs.Common.{◌<◌, ◌-◌, length, sym, subst, rules}
 use Rattle.std.specs.Bool.{IsTrue}
 use Rattle.rl_store.specs.Rooms.{Variables, has_room}
-use Rattle.rl_store.proofs.Inner.{inner_room, inner_changed, inner_same_rooms}
+use Rattle.rl_store.proofs.Inner.{inner_room, inner_changed, inner_same_rooms, inner_sets, first_sets}
 use Rattle.rl_store.proofs.scopes.Scopes.set.Goals as goal
 
 pub index_mut-requires : goal.index_mut-requires
@@ -26,3 +26,13 @@ returns-else-place-eq0-clause-rooms c =
     inner_same_rooms c.self.inside.first c.self.inside.inner.items c.args.self.now c.args.place _ c.index_mut.result.now c.self.view_is
     (inner_room c.self.inside.first c.self.inside.inner.items c.args.self.now c.args.place c.args.variable c.self.inside.first c.self.view_is c.if-place-eq0.false c.requires).0
     c.index_mut.ensures.value c.set-else-place-eq0.ensures.room
+
+pub returns-else-place-eq0-clause-last_notes : goal.returns-else-place-eq0-clause-last_notes
+returns-else-place-eq0-clause-last_notes c =
+    inner_sets c.self.inside.first c.self.inside.inner.items c.args.self.now c.args.place c.args.variable c.args.last_note _ c.index_mut.result.now c.self.view_is c.if-place-eq0.false
+    (inner_room c.self.inside.first c.self.inside.inner.items c.args.self.now c.args.place c.args.variable c.self.inside.first c.self.view_is c.if-place-eq0.false c.requires).0
+    c.index_mut.ensures.value c.set-else-place-eq0.ensures.last_notes
+
+pub returns-then-place-eq0-clause-last_notes : goal.returns-then-place-eq0-clause-last_notes
+returns-then-place-eq0-clause-last_notes c =
+    first_sets c.self.inside.first c.set.new.self c.self.inside.inner.items c.args.self.now c.args.place c.args.variable c.args.last_note c.self.view_is c.if-place-eq0.true c.set.ensures.last_notes

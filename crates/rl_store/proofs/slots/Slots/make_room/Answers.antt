@@ -1,6 +1,6 @@
 use Rattle.std.proofs.Common.{refl, sym, ap, ◌∙◌}
-use Rattle.rl_store.specs.Rooms.{Variables, has_room}
-use Rattle.rl_store.proofs.SlotsLemmas.{values-room, has_room-insert, has_room-stays, has_room-get}
+use Rattle.rl_store.specs.Rooms.{Variables, has_room, last_note_in}
+use Rattle.rl_store.proofs.SlotsLemmas.{values-room, last_notes-room, has_room-insert, has_room-stays, has_room-get}
 use Rattle.rl_store.proofs.slots.Slots.make_room.Goals as goal
 
 pub returns-in_ok-insert-clause-scope : goal.returns-in_ok-insert-clause-scope
@@ -19,3 +19,8 @@ pub returns-else-not-contains_key-clause-room : goal.returns-else-not-contains_k
 returns-else-not-contains_key-clause-room c =
     sym (ap (λ (s : Variables). has_room s.room c.args.variable) c.self.view_is)
     ∙ has_room-get c.self.inside.slots c.args.variable ∙ sym c.contains_key.ensures ∙ c.if-not-contains_key.false
+
+pub returns-in_ok-insert-clause-last_notes : goal.returns-in_ok-insert-clause-last_notes
+returns-in_ok-insert-clause-last_notes c = λ q.
+    last_notes-room c.self.inside.slots c.insert.new.self _ _ c.in_ok-insert.ensures.updates refl (sym c.contains_key.ensures ∙ c.if-not-contains_key.true) q
+    ∙ ap (λ (s : Variables). last_note_in s.last_notes q) c.self.view_is
