@@ -1,22 +1,21 @@
 -- Notes that are made, laid back and given to an older mark.
-use Rattle.std.proofs.Common.{◌≡◌, ◌≢◌, ℕ, zero, suc, ◌+◌, ◌-◌, ◌<◌, ◌≤◌, Bool, true, false, cond, not, ◌&&◌, ◌==◌, nat_lt, List, [], ◌∷◌, ◌++◌, length, take, drop, map, Option, Some, None, refl, sym, ap, ◌∙◌, subst, arith, inl, inr, ◌⊎◌, ⊎_elim, eqb-true, ltb-true, append-nil}
-use Rattle.std.specs.Option.{IsSome, is_some, option_or, option_to_list, unwrap_or}
-use Rattle.std.specs.List.{slice_get, filter, All}
-use Rattle.std.specs.Ordering.{nat_cmp, is_eq, eq_by_cmp}
-use Rattle.std.specs.declared.cmp.Ordering.TheVariants.{Less, Equal, Greater}
-use Rattle.std.specs.Cmp.{IsTotalOrder, nat_cmp_is}
+use Rattle.std.proofs.Common.{◌≡◌, ℕ, zero, suc, ◌+◌, ◌-◌, ◌≤◌, Bool, true, false, cond, not, ◌&&◌, ◌==◌, nat_lt, List, [], ◌∷◌, ◌++◌, length, take, drop, Option, Some, None, refl, sym, ap, ◌∙◌, subst, arith, eqb-true, ltb-true, append-nil}
+use Rattle.std.specs.Option.{IsSome, is_some, option_or}
+use Rattle.std.specs.List.{slice_get, filter}
+use Rattle.std.specs.Ordering.{is_eq}
+use Rattle.std.specs.declared.cmp.Ordering.TheVariants.{Equal}
+use Rattle.std.specs.Cmp.{nat_cmp_is}
 use Rattle.std.specs.FinMap.{find}
 use Rattle.std.proofs.Math.ListN.{drop_of_length-le}
 use Rattle.std.proofs.Math.Seq.{take-append-add, take-length}
-use Rattle.std.proofs.lemmas.List.{drop-append-le, take-append-le, map-append}
+use Rattle.std.proofs.lemmas.List.{drop-append-le, map-append}
 use Rattle.rl_value.specs.Plain.{Plain}
-use Rattle.rl_store.specs.Scope.{Scope, value_at, changed_at}
-use Rattle.rl_store.specs.Rooms.{HasRoom}
+use Rattle.rl_store.specs.Scope.{Scope, changed_at}
 use Rattle.rl_store.specs.Store.{Key, key_cmp, laid_entries}
-use Rattle.rl_store.specs.Journal.{entry_of, entries_of, is_of, is_noted, is_taken, HasRoomIn, Notes}
+use Rattle.rl_store.specs.Journal.{entry_of, entries_of, is_of, is_noted, is_taken}
 use Rattle.rl_store.specs.declared.journal.Note.{Note}
 use Rattle.rl_store.specs.declared.journal.MarkAt.{MarkAt}
-use Rattle.rl_store.proofs.Laying.{key_total, key_same, is_eq-Equal, laid_entries-push}
+use Rattle.rl_store.proofs.Laying.{key_same, is_eq-Equal, laid_entries-push}
 
 pub key_self : (k : Key) → is_eq (key_cmp k k) ≡ true
 key_self k = rw (sym (nat_cmp_is k.0 k.0 Equal refl)) (rw (sym (nat_cmp_is k.1 k.1 Equal refl)) refl)

@@ -2,7 +2,7 @@
 use Rattle.std.proofs.Common.{◌≡◌, ℕ, zero, suc, ◌+◌, ◌-◌, ◌<◌, ◌≤◌, Bool, true, false, cond, not, ◌&&◌, ◌==◌, nat_lt, List, [], ◌∷◌, ◌++◌, length, take, drop, get_or, Option, Some, None, refl, sym, ap, ◌∙◌, subst, arith, inl, inr, ◌⊎◌, ⊎_elim, eqb-true, ltb-true, length-append}
 use Rattle.std.specs.Option.{IsSome, is_some}
 use Rattle.std.specs.List.{slice_get, filter, All}
-use Rattle.std.specs.Ordering.{nat_cmp, ordering_then, is_eq, eq_by_cmp}
+use Rattle.std.specs.Ordering.{nat_cmp, ordering_then, is_eq}
 use Rattle.std.specs.declared.cmp.Ordering.{Ordering}
 use Rattle.std.specs.declared.cmp.Ordering.TheVariants.{Less, Equal, Greater}
 use Rattle.std.specs.Cmp.{eq_by_cmp_equiv, nat_cmp_total}
@@ -14,7 +14,7 @@ use Rattle.std.proofs.lemmas.List.Elements.{All-head, All-tail, All-filter, filt
 use Rattle.rl_value.specs.Plain.{Plain}
 use Rattle.rl_store.specs.Rooms.{LastNotes, last_note_at, KeepsLastNotes, SetsLastNote}
 use Rattle.rl_store.specs.Store.{Key, key_cmp}
-use Rattle.rl_store.specs.Journal.{entry_of, entries_of, is_of, is_noted, is_taken, IsLast, AreLast, IsLinked, HasNoNote, AreNotedOnce}
+use Rattle.rl_store.specs.Journal.{entries_of, is_of, is_noted, is_taken, IsLast, AreLast, IsLinked, HasNoNote, AreNotedOnce}
 use Rattle.rl_store.specs.declared.journal.Note.{Note}
 use Rattle.rl_store.specs.declared.journal.MarkAt.{MarkAt}
 use Rattle.rl_store.proofs.Laying.{nat_cmp-suc, nat_cmp-zero_suc, nat_cmp-suc_zero}

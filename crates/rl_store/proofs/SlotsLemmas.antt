@@ -1,8 +1,8 @@
 -- The variables of one scope, after a change of its map.
-use Rattle.std.proofs.Common.{◌≡◌, ℕ, ◌==◌, Bool, true, false, cond, List, [], ◌∷◌, Option, Some, None, Result, Ok, Err, refl, sym, ap, ◌∙◌, subst, eqb-true}
+use Rattle.std.proofs.Common.{◌≡◌, ℕ, ◌==◌, Bool, true, false, cond, List, [], ◌∷◌, Option, Some, None, refl, sym, ap, ◌∙◌, subst, eqb-true}
 use Rattle.std.specs.Bool.{IsTrue}
 use Rattle.std.specs.Option.{is_some, IsSome, unwrap_or}
-use Rattle.std.specs.Ordering.{nat_cmp, is_eq, eq_by_cmp}
+use Rattle.std.specs.Ordering.{nat_cmp, is_eq}
 use Rattle.std.specs.Cmp.{nat_cmp_total}
 use Rattle.std.specs.Map.{lookup}
 use Rattle.std.specs.BTreeMap.{BTreeMap, Updates, is_at}
@@ -11,7 +11,7 @@ use Rattle.std.specs.FinMap.{get, get-empty, same_map, nat_cmp-IsAntisymmetric}
 use Rattle.std.proofs.lemmas.Map.Made.{is_some-lookup}
 use Rattle.rl_value.specs.Plain.{Plain}
 use Rattle.rl_store.specs.declared.slots.Slot.{Slot}
-use Rattle.rl_store.specs.Scope.{Scope, changed}
+use Rattle.rl_store.specs.Scope.{changed}
 use Rattle.rl_store.specs.Rooms.{has_room, last_note_in}
 use Rattle.rl_store.specs.Slots.{values_of, rooms_of, last_notes_of, value_in}
 use Rattle.rl_store.proofs.Laying.{get-changed, is_eq-Equal}

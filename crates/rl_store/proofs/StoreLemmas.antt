@@ -1,11 +1,9 @@
 -- What the marks keep, after each call.
-use Rattle.std.proofs.Common.{◌≡◌, ℕ, zero, suc, ◌+◌, ◌-◌, ◌<◌, ◌≤◌, Bool, true, false, cond, nat_lt, List, [], ◌∷◌, ◌++◌, length, take, drop, Option, Some, None, refl, sym, ap, ◌∙◌, subst, arith, inl, inr, ◌⊎◌, ⊎_elim, ltb-true, length-append, not}
+use Rattle.std.proofs.Common.{◌≡◌, ℕ, ◌<◌, ◌≤◌, Bool, true, false, cond, nat_lt, List, [], ◌∷◌, ◌++◌, length, take, drop, Option, Some, None, refl, sym, ap, ◌∙◌, subst, arith, inl, inr, ltb-true, length-append, not}
 use Rattle.std.specs.Option.{IsSome, is_some, option_or, unwrap_or}
 use Rattle.std.specs.List.{filter, All}
-use Rattle.std.specs.Ordering.{is_eq, eq_by_cmp}
-use Rattle.std.specs.declared.cmp.Ordering.TheVariants.{Equal}
+use Rattle.std.specs.Ordering.{is_eq}
 use Rattle.std.specs.FinMap.{get, find, insert, empty, entries, contains_key, from_entries, retain_keys, get-insert, get-entries, get-from_entries, get-retain_keys, same_map}
-use Rattle.std.proofs.Math.ListN.{drop_of_length-le}
 use Rattle.std.proofs.Math.Seq.{take-length, drop-length}
 use Rattle.std.proofs.lemmas.List.{drop-append-le, take-append-le, take-append-drop, length-take-le, map-append}
 use Rattle.std.proofs.lemmas.List.Elements.{All-append, All-push, All-weaker, All-take, All-drop, All-nil, All-same, All-filter, filter_passes}

@@ -1,5 +1,5 @@
 -- What a store stands for, after each call.
-use Rattle.std.proofs.Common.{◌≡◌, ℕ, zero, suc, ◌+◌, ◌-◌, ◌<◌, ◌≤◌, ◌↔◌, List, [], ◌∷◌, ◌++◌, length, take, drop, reverse, Option, Some, None, refl, sym, ap, ◌∙◌, subst, arith, ◌==◌, ◌&&◌, false, inl, inr}
+use Rattle.std.proofs.Common.{◌≡◌, ℕ, zero, suc, ◌-◌, ◌<◌, ◌≤◌, ◌↔◌, List, [], ◌∷◌, ◌++◌, length, take, drop, reverse, Option, Some, None, refl, sym, ap, ◌∙◌, subst, arith, ◌==◌, ◌&&◌, false, inl, inr}
 use Rattle.std.specs.Option.{option_to_list}
 use Rattle.std.specs.List.{All}
 use Rattle.std.specs.FinMap.{empty}
@@ -8,13 +8,13 @@ use Rattle.std.proofs.lemmas.List.Elements.{All-nil, All-take}
 use Rattle.rl_value.specs.Plain.{Plain}
 use Rattle.rl_store.specs.Scope.{Scope, value_at, changed_at}
 use Rattle.rl_store.specs.Rooms.{LastNotes, last_note_at, HasRoom, KeepsLastNotes, SetsLastNote}
-use Rattle.rl_store.specs.Store.{PlainStore, Mark, Key, laid, laid_entries, noting, setting, opened, closed, marked, rolled_back, released, without_newest, IsClosable, IsOpenedSince, HasMark, IsLaid}
+use Rattle.rl_store.specs.Store.{PlainStore, Key, laid, laid_entries, noting, setting, opened, closed, marked, rolled_back, released, IsClosable, IsOpenedSince, IsLaid}
 use Rattle.rl_store.specs.Journal.{entries_of, HasRoomIn, newest_first, marks_of, IsJournal, IsLast, AreLast, Notes, NotesSince, passed_down, floor_of}
 use Rattle.rl_store.specs.declared.journal.Note.{Note}
 use Rattle.rl_store.specs.declared.journal.MarkAt.{MarkAt}
 use Rattle.rl_store.proofs.Laying.{length-laid, length-changed_at}
 use Rattle.rl_store.proofs.LastNotes.{are_last_set, are_last_keeps, are_last_take, last_more, no_note_cons}
-use Rattle.rl_store.proofs.StoreLemmas.{noted_in, marks-set, marks-mark, marks-same, marks-release, marks-rollback, IsJournal-grow, IsJournal-places, IsJournal-set, IsJournal-mark, IsJournal-release, room-set, room-stays, room-take, room-release}
+use Rattle.rl_store.proofs.StoreLemmas.{noted_in, marks-set, marks-mark, marks-release, marks-rollback, IsJournal-places, IsJournal-set, IsJournal-mark, IsJournal-release, room-set, room-stays, room-take, room-release}
 
 abbrev pub seen : List Scope → List Note → List MarkAt → PlainStore
 seen ss notes ms = record { scopes = ss; marks = marks_of ms notes ss }

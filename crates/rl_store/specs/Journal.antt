@@ -1,11 +1,11 @@
 -- What the notes of a journal stand for.
-use Rattle.std.specs.Prelude.{◌≡◌, ℕ, ◌-◌, ◌<◌, ◌≤◌, Bool, true, false, ◌==◌, ◌&&◌, not, nat_lt, List, [], ◌∷◌, ◌++◌, length, take, drop, reverse, map, filter, slice_get, All, Option, Some, None, IsSome, IsTrue, ◌⊎◌}
+use Rattle.std.specs.Prelude.{◌≡◌, ℕ, ◌-◌, ◌<◌, ◌≤◌, Bool, false, ◌==◌, ◌&&◌, not, nat_lt, List, [], ◌∷◌, ◌++◌, length, take, drop, reverse, map, filter, slice_get, All, Option, Some, None, IsSome, IsTrue, ◌⊎◌}
 use Rattle.std.specs.Option.{option_to_list}
 use Rattle.std.specs.FinMap.{find, from_entries}
 use Rattle.rl_value.specs.Plain.{Plain}
 use Rattle.rl_store.specs.Scope.{Scope}
 use Rattle.rl_store.specs.Rooms.{HasRoom, LastNotes, last_note_at}
-use Rattle.rl_store.specs.Store.{Key, key_cmp, Noted, Mark, laid, laid_entries}
+use Rattle.rl_store.specs.Store.{Key, key_cmp, Mark, laid}
 use Rattle.rl_store.specs.declared.journal.Note.{Note}
 use Rattle.rl_store.specs.declared.journal.MarkAt.{MarkAt}
 

@@ -1,5 +1,5 @@
 -- The plain store that a store stands for.
-use Rattle.std.specs.Prelude.{◌≡◌, List, [], length, All, Option, None}
+use Rattle.std.specs.Prelude.{◌≡◌, [], length, All, None}
 use Rattle.rl_store.specs.Store.{PlainStore}
 use Rattle.rl_store.specs.Journal.{newest_first, marks_of, IsJournal, HasRoomIn, AreLast}
 use Rattle.rl_store.specs.declared.store.Store.TheInside.{Inside}

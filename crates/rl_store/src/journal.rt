@@ -210,7 +210,12 @@ fn give_down(scopes: &mut Scopes, notes: &mut Vec<Note>, older: MarkAt, from: us
 }
 
 /// Gives the notes from `from` on to the older mark, and removes those that it does not take, or all where there is none.
-pub(crate) fn pass_down(scopes: &mut Scopes, notes: &mut Vec<Note>, older: Option<MarkAt>, from: usize)
+pub(crate) fn pass_down(
+    scopes: &mut Scopes,
+    notes: &mut Vec<Note>,
+    older: Option<MarkAt>,
+    from: usize,
+)
     requires within { from ≤ length notes.old.items }
     requires room { All (HasRoomIn scopes.old.rooms) notes.old.items }
     requires last_notes { AreLast notes.old.items scopes.old.last_notes }

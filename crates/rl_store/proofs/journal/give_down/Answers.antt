@@ -1,4 +1,4 @@
-use Rattle.std.proofs.Common.{◌≡◌, List, ℕ, take, sym, ap, ◌∙◌, subst}
+use Rattle.std.proofs.Common.{List, ℕ, take, sym, ◌∙◌, subst}
 use Rattle.std.specs.List.{All}
 use Rattle.rl_store.specs.Journal.{HasRoomIn}
 use Rattle.rl_store.specs.declared.journal.Note.{Note}

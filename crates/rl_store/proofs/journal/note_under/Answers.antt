@@ -1,7 +1,5 @@
 use Rattle.std.proofs.Common.{◌≡◌, ◌<◌, ℕ, arith, refl, sym, ap, ◌∙◌, subst, inl, inr, false, drop}
 use Rattle.rl_store.specs.Scope.{value_at}
-use Rattle.rl_store.specs.Rooms.{last_note_at}
-use Rattle.rl_store.specs.Store.{Key}
 use Rattle.rl_store.specs.Journal.{is_noted, IsLast, HasNoNote}
 use Rattle.rl_store.specs.declared.journal.Note.{Note}
 use Rattle.rl_store.proofs.JournalLemmas.{is_noted-find}
