@@ -15,3 +15,4 @@ pub mod Named
 pub mod Determined
 pub mod Certified
 pub mod Examples
+pub mod PassedOver

@@ -13,3 +13,9 @@ told (token ∷ tokens) zero kind terminal text k t =
     let same_text : token.text ≡ text = cc in
     rw (← same_kind, ← same_text) refl
 told (token ∷ tokens) (suc at) kind terminal text k t = told tokens at kind terminal text k t
+
+-- the token of a kind that was read
+pub read : (tokens : Tokens) (at kind : ℕ) → slice_get (kinds_of tokens) at ≡ Some kind → (t : lexed.Token) × (slice_get tokens at ≡ Some t) × (t.kind ≡ kind)
+read [] at kind k = absurd cc
+read (token ∷ tokens) zero kind k = (token, refl, cc)
+read (token ∷ tokens) (suc at) kind k = read tokens at kind k

@@ -1,7 +1,7 @@
 -- What a turn keeps.
-use Rattle.std.proofs.Common.{◌≡◌, ℕ, ◌<◌, ◌⊎◌, List, ◌∷◌, Some, refl, sym, subst, ⊎_elim}
+use Rattle.std.proofs.Common.{◌≡◌, ℕ, ◌<◌, ◌⊎◌, List, [], ◌∷◌, Some, refl, sym, subst, ⊎_elim}
 use Rattle.std.specs.List.{All, IsAmong}
-use Rattle.std.proofs.lemmas.List.Elements.{All-weaker, All-contains}
+use Rattle.std.proofs.lemmas.List.Elements.{All-nil, All-weaker, All-contains}
 use Rattle.rl_phrase.specs.Terminals.{Tokens}
 use Rattle.rl_phrase.specs.declared.table.Rule.{Rule}
 use Rattle.rl_phrase.specs.declared.arena.Cell.{Cell}
@@ -33,6 +33,11 @@ module _ (tokens : Tokens) (rules : List Rule) where
 
   same_memory : (cells : List Cell) (old new : List Entry) → All (IsRight tokens rules cells) old → new ≡ old → All (IsRight tokens rules cells) new
   same_memory cells old new a e = subst (λ m. All (IsRight tokens rules cells) m) (sym e) a
+
+  pub forgotten : (cells : List Cell) (old new : List Entry) → All (IsRight tokens rules cells) old → (new ≡ old) ⊎ (new ≡ []) → All (IsRight tokens rules cells) new
+  forgotten cells old new a h =
+      ⊎_elim (λ (e : new ≡ old). same_memory cells old new a e)
+      (λ (e : new ≡ []). subst (λ m. All (IsRight tokens rules cells) m) (sym e) (All-nil _)) h
 
   pub memory_success : (cells : List Cell) (old new : List Entry) (f : Frame) (parts at far : ℕ) (fs : List Pending) → All (IsRight tokens rules cells) old
       → IsOnTheWay tokens rules (Going at (frame_in cells f ∷ fs) (parts_in cells parts) far) → RemembersSuccess cells f parts at far old new → All (IsRight tokens rules cells) new

@@ -1,4 +1,5 @@
 pub mod Terminals
+pub mod Firsts
 pub mod Tree
 pub mod Phr
 pub mod Steps

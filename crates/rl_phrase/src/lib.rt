@@ -3,6 +3,7 @@
 
 mod arena;
 mod build;
+mod firsts;
 pub mod laws;
 mod machine;
 mod memory;

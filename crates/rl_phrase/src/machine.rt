@@ -1,9 +1,10 @@
 // The machine: one loop over a stack of frames.
 
-ghost use Rattle.std.specs.Prelude.{◌≡◌, ℕ, ◌≤◌, List, length, slice_get, OnOk, IfOk};
+ghost use Rattle.std.specs.Prelude.{◌≡◌, ◌⊎◌, ℕ, ◌≤◌, List, [], length, slice_get, OnOk, IfOk};
 ghost use Rattle.std.specs.List.{All};
 ghost use Rattle.rl_phrase.specs.declared.arena.Cell.{Cell};
 ghost use Rattle.rl_phrase.specs.LeftRecursion.{HasNoLeftRecursion};
+ghost use Rattle.rl_phrase.specs.Firsts.{AreFirsts};
 ghost use Rattle.rl_phrase.specs.Phr.{node_of};
 ghost use Rattle.rl_phrase.specs.Machine.{Pending, Calling, turned, called_terminal, called_form, succeeded};
 ghost use Rattle.rl_phrase.specs.Arena.{parts_in, tree_in, IsWithin, node_alone};
@@ -11,6 +12,7 @@ ghost use Rattle.rl_phrase.specs.State.{frame_in, frames_in, state_of, after_tur
 ghost use Rattle.rl_phrase.specs.Stands.{Stands, IsPrepared, HasTurned, RemembersSuccess, RemembersFailure};
 
 use crate::arena::{Arena, Cell, Item};
+use crate::firsts::{First, cannot_begin};
 use crate::memory::{Entry, Given, Memory};
 use crate::stack::Stack;
 use crate::table::{Form, Rule};
@@ -44,6 +46,20 @@ fn name(arena: &Arena, parts: u32, row: u32, from: u32, at: u32) -> Item
     match arena.last(parts) {
         Some(cell) => lone_or(cell, node),
         None => node,
+    }
+}
+
+/// Over how few frames a turn of a repetition has what is before it forgotten.
+const SHALLOW: usize = 8;
+
+// Near the stack's bottom, where a turn of a repetition has ended, hardly anything before it will be asked again: all is forgotten.
+fn forget_before(memory: &mut Memory, frame: Frame, depth: usize)
+    ensures { (memory.new ≡ memory.old) ⊎ (memory.new ≡ []) }
+{
+    if let Frame::Turns { .. } = frame
+        && depth < SHALLOW
+    {
+        memory.forget();
     }
 }
 
@@ -193,8 +209,18 @@ impl Machine {
         }
     }
 
-    // What a call comes to: at once to what is remembered of the row, or else to its beginning.
-    fn call(&self, tokens: &Tokens, rules: &[Rule], row: u64, at: u32) -> Result<Turn, AllocError>
+    // What a call comes to: at once to a failure where the row cannot begin with the token, or to what is remembered of it, or
+    // else to its beginning.
+    fn call(
+        &self,
+        tokens: &Tokens,
+        rules: &[Rule],
+        firsts: &[First],
+        row: u64,
+        at: u32,
+    ) -> Result<Turn, AllocError>
+        requires no_left_recursion { HasNoLeftRecursion rules.now }
+        requires firsts { AreFirsts rules.now firsts.now }
         requires list { self.now.parts ≤ length self.now.arena }
         requires memory { All (IsRight tokens.now rules.now self.now.arena) self.now.memory }
         ensures means { IfOk result (λ turn. (frames : List Pending) → Leads tokens.now rules.now (Calling row at frames (parts_in self.now.arena self.now.parts) self.now.far) (after_turn self.now.arena turn frames)) }
@@ -206,6 +232,9 @@ impl Machine {
         let Some(rule) = rules.get(row as usize) else {
             return Ok(to(Task::Fail, Built::Same(0), self.far));
         };
+        if cannot_begin(firsts, tokens, row, at) {
+            return Ok(to(Task::Fail, Built::Same(0), self.far.max(at)));
+        }
         if let Form::Named = rule.form
             && let Some(entry) = self.memory.recall(number, at)
         {
@@ -268,19 +297,27 @@ impl Machine {
     }
 
     // The turn that is next, if there is one, without its frame and with what is remembered of it.
-    fn next(&mut self, tokens: &Tokens, rules: &[Rule]) -> Result<Option<Turn>, AllocError>
-        requires { Stands tokens.now rules.now self.old }
+    fn next(
+        &mut self,
+        tokens: &Tokens,
+        rules: &[Rule],
+        firsts: &[First],
+    ) -> Result<Option<Turn>, AllocError>
+        requires no_left_recursion { HasNoLeftRecursion rules.now }
+        requires firsts { AreFirsts rules.now firsts.now }
+        requires stands { Stands tokens.now rules.now self.old }
         ensures { IfOk result (IsPrepared tokens.now rules.now self.old self.new) }
     {
         match self.task {
             Task::Call { row, at } => {
-                let turn = self.call(tokens, rules, row, at)?;
+                let turn = self.call(tokens, rules, firsts, row, at)?;
                 Ok(Some(turn))
             }
             Task::Succeed(at) => {
                 let Some(frame) = self.frames.pop() else {
                     return Ok(None);
                 };
+                forget_before(&mut self.memory, frame, self.frames.len());
                 remember_success(
                     &mut self.memory,
                     &self.arena,
@@ -320,13 +357,19 @@ impl Machine {
     }
 
     /// Goes on by one turn or by the turns whose outcome is remembered, unless it is at the end.
-    pub fn turn(&mut self, tokens: &Tokens, rules: &[Rule]) -> Result<bool, AllocError>
+    pub fn turn(
+        &mut self,
+        tokens: &Tokens,
+        rules: &[Rule],
+        firsts: &[First],
+    ) -> Result<bool, AllocError>
         requires no_left_recursion { HasNoLeftRecursion rules.now }
+        requires firsts { AreFirsts rules.now firsts.now }
         requires stands { Stands tokens.now rules.now self.old }
         ensures stands { OnOk result (Stands tokens.now rules.now self.new) }
         ensures turned { IfOk result (HasTurned tokens.now rules.now self.old self.new) }
     {
-        match self.next(tokens, rules)? {
+        match self.next(tokens, rules, firsts)? {
             None => Ok(false),
             Some(turn) => {
                 self.take(turn)?;

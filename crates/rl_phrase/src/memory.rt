@@ -11,6 +11,9 @@ use std::collections::HashMap;
 use std::hash::Hash;
 use std::marker::Model;
 
+/// For how many entries room is kept where all are forgotten.
+const KEPT: usize = 64;
+
 #[derive(Clone, Copy, PartialEq, Eq, Hash)]
 struct Place {
     row: u32,
@@ -46,6 +49,7 @@ fn put<K: Eq + Hash + Drop>(
 /// Entries, of which contracts see the list.
 #[derive(Drop)]
 pub struct Memory {
+    alloc: Global,
     entries: HashMap<Place, Entry>,
 }
 
@@ -64,7 +68,19 @@ impl Memory {
         ensures { result ≡ [] }
     {
         Memory {
+            alloc,
             entries: HashMap::new(alloc),
+        }
+    }
+
+    /// Forgets all. Little room is kept, so that it takes no longer than what is forgotten had taken.
+    pub fn forget(&mut self)
+        ensures { self.new ≡ [] }
+    {
+        if self.entries.capacity() > KEPT {
+            self.entries = HashMap::new(self.alloc);
+        } else {
+            self.entries.clear();
         }
     }
 

@@ -5,6 +5,7 @@ ghost use Rattle.rl_phrase.specs.Search.{Shows};
 ghost use Rattle.rl_phrase.specs.LeftRecursion.{HasNoLeftRecursion};
 
 use crate::arena::Arena;
+use crate::firsts::firsts;
 use crate::machine::Machine;
 use crate::memory::Memory;
 use crate::stack::Stack;
@@ -32,6 +33,7 @@ pub fn run_machine(
     requires { HasNoLeftRecursion rules.now }
     ensures { IfOk result (Shows tokens.now rules.now start) }
 {
+    let firsts = firsts(alloc, rules)?;
     let mut machine = Machine {
         task: Task::Call {
             row: start as u64,
@@ -43,7 +45,7 @@ pub fn run_machine(
         arena: Arena::new(alloc),
         memory: Memory::new(alloc),
     };
-    'turns: while machine.turn(tokens, rules)? {}
+    'turns: while machine.turn(tokens, rules, &firsts)? {}
     match machine.task {
         Task::Succeed(at) => {
             let steps = unfold(alloc, &machine.arena, machine.parts)?;

@@ -2,11 +2,12 @@ use Rattle.std.proofs.Common.{◌≡◌, ◌<◌, length, Some, ap, ◌∙◌, s
 use Rattle.std.specs.Prelude.{slice_get}
 use Rattle.std.proofs.lemmas.Bool.{ltb-true}
 use Rattle.std.proofs.lemmas.Option.{slice_get_read}
-use Rattle.rl_phrase.specs.Phr.{Phr}
-use Rattle.rl_phrase.specs.Machine.{Calling, called}
+use Rattle.rl_phrase.specs.Phr.{Fails, Phr}
+use Rattle.rl_phrase.specs.Machine.{Calling, Failing, called}
 use Rattle.rl_phrase.specs.Arena.{parts_in}
 use Rattle.rl_phrase.specs.State.{after_turn, outcome_in, Leads}
 use Rattle.rl_phrase.proofs.Turned.{one_turn, remembered}
+use Rattle.rl_phrase.proofs.PassedOver.{passed_over}
 use Rattle.rl_phrase.proofs.Ways.{jumps}
 use Rattle.rl_phrase.proofs.machine.Machine.call.Goals as goal
 
@@ -45,3 +46,17 @@ returns-2-clause-means c frames =
     (ap (λ o. Some (called tokens c.args.row c.args.at o frames parts far)) rule
     ∙ ap (λ r. Some (called tokens r c.args.at (Some c.in-Some.rule.now) frames parts far)) (sym c.in-Ok.ensures.1)
     ∙ ap Some (sym (c.start.ensures.means frames)))
+
+pub returns-then-cannot_begin-clause-means : goal.returns-then-cannot_begin-clause-means
+returns-then-cannot_begin-clause-means c frames =
+    let tokens = c.args.tokens.now in
+    let rules = c.args.rules.now in
+    let cells = c.args.self.now.arena in
+    let row = c.args.row in
+    let at = c.args.at in
+    let parts = parts_in cells c.args.self.now.parts in
+    let far = c.args.self.now.far in
+    let here : Phr tokens rules row at (Fails at) = passed_over tokens rules c.args.firsts.now row at c.requires.no_left_recursion c.requires.firsts (c.cannot_begin.ensures c.if-cannot_begin.true) in
+    subst (λ t. Leads tokens rules (Calling row at frames parts far) (after_turn cells t frames)) (sym c.to-then-cannot_begin.ensures)
+    (subst (λ n. Leads tokens rules (Calling row at frames parts far) (Failing frames n)) (sym c.max.ensures)
+    (jumps tokens rules row at (Fails at) here frames parts far))
