@@ -123,6 +123,19 @@ fn the_first_fault_is_told(rt: HostRuntime) -> Result<(), Fail> {
 }
 
 #[test]
+fn a_file_that_is_too_long_is_refused_at_its_import(rt: HostRuntime) -> Result<(), Fail> {
+    let mut files = files(
+        rt.alloc(),
+        &[("Main.rsc", "module Main import IO;\n import A;")],
+    )?;
+    let text = vec![in rt.alloc(); b' '; 16_777_217]?;
+    files.add("A.rsc", text.as_slice())?;
+    let end = load(rt.alloc(), &mut files, "", "Main");
+    assert!(rt; is_fault(&end, ("Main.rsc", 0, 2, 2, 2)));
+    Ok(())
+}
+
+#[test]
 fn the_thousand_and_first_module_is_refused(rt: HostRuntime) -> Result<(), Fail> {
     for (last, is_refused) in [(999, false), (1000, true)] {
         let mut files = files(rt.alloc(), &[("Main.rsc", "module Main\nimport M1;")])?;
