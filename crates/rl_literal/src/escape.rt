@@ -3,8 +3,8 @@
 ghost use Rattle.std.specs.Prelude.{◌≡◌, ◌<◌, ◌^◌, drop, slice_index};
 ghost use Rattle.rl_literal.specs.Escape.{character, escape_length, escaped, hex_digit, hex_number};
 
-// The character, or NUL past the end.
-fn peek(text: &[char], at: usize) -> char
+/// The character, or NUL past the end.
+pub(crate) fn peek(text: &[char], at: usize) -> char
     ensures { result ≡ slice_index text.now at }
 {
     if at < text.len() { text[at] } else { '\0' }

@@ -8,8 +8,8 @@ ghost use Rattle.rl_literal.specs.Strings.{inner, string_in, unescaped};
 use crate::escape::{escape_length, escaped};
 use std::alloc::{AllocError, Global};
 
-// What is between the first and the last character.
-fn inner(text: &[char]) -> &[char]
+/// What is between the first and the last character.
+pub(crate) fn inner(text: &[char]) -> &[char]
     ensures { result.now ≡ inner text.now }
 {
     if text.len() < 2 {
@@ -17,6 +17,16 @@ fn inner(text: &[char]) -> &[char]
     } else {
         &text[1..text.len() - 1]
     }
+}
+
+/// Adds the text.
+pub(crate) fn add_text(text: &[char], out: &mut String) -> Result<(), AllocError>
+    ensures { OnOk result (string_bytes out.new ≡ string_bytes out.old ++ encode_utf8_all text.now) }
+{
+    for c in text {
+        out.push(*c)?;
+    }
+    Ok(())
 }
 
 // Adds the text, its escapes read.
@@ -39,8 +49,8 @@ fn add_unescaped(text: &[char], out: &mut String) -> Result<(), AllocError>
     Ok(())
 }
 
-// The characters of the token.
-fn characters(alloc: Global, token: &str) -> Result<Vec<char>, AllocError>
+/// The characters of the token.
+pub(crate) fn characters(alloc: Global, token: &str) -> Result<Vec<char>, AllocError>
     ensures { IfOk result (λ characters. characters.items ≡ chars token.now) }
 {
     token.chars().collect(alloc)
