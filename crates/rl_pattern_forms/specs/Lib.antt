@@ -1,0 +1,5 @@
+pub mod Literals
+pub mod Elements
+pub mod Plain
+pub mod Named
+pub mod Rule
