@@ -1,0 +1,5 @@
+pub mod Atom
+pub mod Symbol
+pub mod Production
+pub mod Definition
+pub mod Rule

@@ -1,0 +1,11 @@
+//! Syntax definitions, from what the parts of their phrases say.
+#![tactic(auto)]
+
+mod atom;
+mod definition;
+mod production;
+mod rule;
+mod shares;
+mod symbol;
+
+pub use rule::grammar_form;
