@@ -1,12 +1,5 @@
 pub mod Source
 pub mod Token
-pub mod Parts
-pub mod Unbuilt
-pub mod TypeForm
-pub mod Pattern
-pub mod Expression
-pub mod Statement
-pub mod Declaration
 pub mod Node
 pub mod Phrase
 pub mod Read

@@ -1,51 +1,42 @@
 -- What a phrase says, from what its parts say.
-use Rattle.std.specs.Prelude.{ℕ, ◌==◌, List, [], ◌∷◌, Option, Some, None, if◌then◌else◌}
+use Rattle.std.specs.Prelude.{ℕ, List, [], ◌∷◌, Option, Some, None}
 use Rattle.rl_base.specs.declared.place.Place.{Place}
-use Rattle.rl_syntax.specs.declared.rules.TheConstants.{QUALIFIED_NAME, IMPORT, FUNCTION, TYPE, FIELD, BLOCK, SIMPLE_STATEMENT, PRIMARY, PLAIN_PATTERN}
-use Rattle.rl_reader.specs.declared.form.Form.{Form}
-use Rattle.rl_reader.specs.declared.form.Form.TheVariants as f
-use Rattle.rl_reader.specs.Unbuilt.{is_unbuilt}
-use Rattle.rl_reader.specs.Parts.{or_else}
-use Rattle.rl_reader.specs.TypeForm.{type_of, named_field_of}
-use Rattle.rl_reader.specs.Pattern.{plain_of}
-use Rattle.rl_reader.specs.Expression.{primary_of}
-use Rattle.rl_reader.specs.Statement.{block_of, simple_of}
-use Rattle.rl_reader.specs.Declaration.{qualified_name_of, import_of, function_of}
+use Rattle.rl_forms.specs.declared.form.Form.{Form}
+use Rattle.rl_forms.specs.declared.form.Form.TheVariants as f
+use Rattle.rl_forms.specs.Words.{or_else}
+use Rattle.rl_expression_forms.specs.Rule.{expression_form}
+use Rattle.rl_pattern_forms.specs.Rule.{pattern_form}
+use Rattle.rl_statement_forms.specs.Rule.{statement_form}
+use Rattle.rl_declaration_forms.specs.Rule.{declaration_form}
+use Rattle.rl_grammar_forms.specs.Rule.{grammar_form}
 
--- where the form begins, if it is not built
-abbrev pub unbuilt : Form → Option Place
-unbuilt (f.Unbuilt place) = Some place
-unbuilt _ = None
+-- where the form begins, if its parts are not those of its rule
+abbrev pub unknown : Form → Option Place
+unknown (f.Unknown place) = Some place
+unknown _ = None
 
--- where the first of the forms that are not built begins
-abbrev pub first_unbuilt : List Form → Option Place
-first_unbuilt [] = None
-first_unbuilt (form ∷ forms) = or_else (unbuilt form) (first_unbuilt forms)
+-- where the first of those begins
+abbrev pub first_unknown : List Form → Option Place
+first_unknown [] = None
+first_unknown (form ∷ forms) = or_else (unknown form) (first_unknown forms)
 
--- what a phrase of the rule says whose parts are built
+-- no rule is of two of these kinds
 unfoldable pub form_of_rule : ℕ → Place → List Form → Option Form
 form_of_rule rule place parts =
-    if rule == QUALIFIED_NAME then qualified_name_of place parts
-    else (if rule == IMPORT then import_of place parts
-    else (if rule == FUNCTION then function_of place parts
-    else (if rule == TYPE then type_of place parts
-    else (if rule == FIELD then named_field_of parts
-    else (if rule == BLOCK then block_of place parts
-    else (if rule == SIMPLE_STATEMENT then simple_of place parts
-    else (if rule == PRIMARY then primary_of place parts
-    else (if rule == PLAIN_PATTERN then plain_of place parts else None))))))))
+    or_else (expression_form rule place parts)
+    (or_else (pattern_form rule place parts)
+    (or_else (statement_form rule place parts)
+    (or_else (declaration_form rule place parts) (grammar_form rule place parts))))
 
-abbrev pub form_or_unbuilt : Option Form → Place → Form
-form_or_unbuilt (Some form) place = form
-form_or_unbuilt None place = f.Unbuilt place
+abbrev pub form_or_unknown : Option Form → Place → Form
+form_or_unknown (Some form) place = form
+form_or_unknown None place = f.Unknown place
 
--- the first of the parts that are not built, or else this
-abbrev pub unless_unbuilt : Option Place → Form → Form
-unless_unbuilt (Some first) form = f.Unbuilt first
-unless_unbuilt None form = form
+-- the first of the parts that is unknown, or else this
+abbrev pub unless_unknown : Option Place → Form → Form
+unless_unknown (Some first) form = f.Unknown first
+unless_unknown None form = form
 
--- a form that the table lists or that has no definition is not built; of several such forms the one that begins first in the text counts
+-- of several unknown forms the one that begins first in the text counts
 unfoldable pub form_of_node : ℕ → Place → List Form → Form
-form_of_node rule place parts =
-    if is_unbuilt rule parts then f.Unbuilt place
-    else unless_unbuilt (first_unbuilt parts) (form_or_unbuilt (form_of_rule rule place parts) place)
+form_of_node rule place parts = unless_unknown (first_unknown parts) (form_or_unknown (form_of_rule rule place parts) place)

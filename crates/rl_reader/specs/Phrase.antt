@@ -2,7 +2,7 @@
 use Rattle.std.specs.Prelude.{List, [], ◌∷◌}
 use Rattle.rl_phrase.specs.Tree.{Tree, Trees, Token, Node, none, more}
 use Rattle.rl_reader.specs.declared.source.Source.{Source}
-use Rattle.rl_reader.specs.declared.form.Form.{Form}
+use Rattle.rl_forms.specs.declared.form.Form.{Form}
 use Rattle.rl_reader.specs.Source.{place_at}
 use Rattle.rl_reader.specs.Token.{form_of_token}
 use Rattle.rl_reader.specs.Node.{form_of_node}

@@ -24,11 +24,11 @@ use Rattle.rl_syntax.specs.declared.rules.TheConstants.{MODULE, RULES}
 use Rattle.rl_reader.specs.declared.read.ReadFault.{ReadFault}
 use Rattle.rl_reader.specs.declared.read.ReadFault.TheVariants as fault
 use Rattle.rl_reader.specs.declared.source.Source.{Source}
-use Rattle.rl_reader.specs.declared.form.Form.{Form}
-use Rattle.rl_reader.specs.declared.form.Form.TheVariants as f
+use Rattle.rl_forms.specs.declared.form.Form.{Form}
+use Rattle.rl_forms.specs.declared.form.Form.TheVariants as f
 use Rattle.rl_reader.specs.Source.{place_at, place_within}
-use Rattle.rl_reader.specs.Node.{first_unbuilt}
-use Rattle.rl_reader.specs.Declaration.{as_declaration}
+use Rattle.rl_reader.specs.Node.{first_unknown}
+use Rattle.rl_declaration_forms.specs.Declaration.{as_declaration}
 use Rattle.rl_reader.specs.Phrase.{forms_of}
 
 -- a module, or the first fault
@@ -40,14 +40,14 @@ abbrev pub module_of : Place → (path name : List ℕ) → List Form → Module
 module_of place path name forms = record { place = place; path = path; name = name; declarations = filter_map as_declaration forms }
 
 -- M12, or the module
-abbrev pub of_unbuilt : Option Place → Module → Reading
-of_unbuilt (Some first) modul = Refused first 12
-of_unbuilt None modul = Read modul
+abbrev pub of_unknown : Option Place → Module → Reading
+of_unknown (Some first) modul = Refused first 12
+of_unknown None modul = Read modul
 
 -- M11, or what follows
 abbrev pub of_header : Place → (path name : List ℕ) → List Form → Option Form → Reading
 of_header place path name forms (Some (f.QualifiedName at found)) =
-    if bytes_eq found name then of_unbuilt (first_unbuilt forms) (module_of place path name forms)
+    if bytes_eq found name then of_unknown (first_unknown forms) (module_of place path name forms)
     else Refused at 11
 of_header place path name forms _ = Refused place 12
 

@@ -4,10 +4,10 @@ ghost use Rattle.std.specs.Prelude.{◌≡◌, IfOk};
 ghost use Rattle.rl_phrase.specs.View.{tree_of, trees_of, view};
 ghost use Rattle.rl_reader.specs.Phrase.{form_of, forms_of};
 
-use crate::form::Form;
 use crate::node::read_node;
 use crate::source::Source;
 use crate::token::read_token;
+use rl_forms::Form;
 use rl_phrase::tree::{Part, Phrase};
 use std::alloc::{AllocError, Global};
 

@@ -5,12 +5,12 @@ ghost use Rattle.rl_phrase.specs.View.{view};
 ghost use Rattle.rl_reader.specs.Source.{place_within};
 ghost use Rattle.rl_reader.specs.Read.{Answers, IsFaultOrMemory, as_fault, as_phrase_fault, module_of, of_forms, of_source, of_text, of_tree, read_of, valid_front};
 
-use crate::declaration::declarations;
-use crate::form::Form;
-use crate::node::first_unbuilt;
+use crate::node::first_unknown;
 use crate::phrase::read_parts;
 use crate::source::{Source, place_within};
-use rl_base::{Chars, Place, Row, TextFault, chars};
+use rl_base::{Chars, Place, TextFault, chars};
+use rl_declaration_forms::declarations;
+use rl_forms::Form;
 use rl_grammar::Name;
 use rl_phrase::phrase::{PhraseFault, phrase};
 use rl_phrase::tree::Phrase;
@@ -50,7 +50,7 @@ fn finish(
 ) -> Result<Module, AllocError>
     ensures { IfOk result (λ it. it ≡ module_of place path.now name.now parts.now) }
 {
-    let declarations = Row::from_vec(alloc, declarations(alloc, parts)?)?;
+    let declarations = declarations(alloc, parts)?;
     let path = Name::from_str(alloc, path)?;
     let name = Name::from_str(alloc, name)?;
     Ok(Module {
@@ -84,7 +84,7 @@ fn module_of_forms(
         }
         _ => return Err(ReadFault::Fault { place, code: 12 }),
     }
-    if let Some(place) = first_unbuilt(forms) {
+    if let Some(place) = first_unknown(forms) {
         return Err(ReadFault::Fault { place, code: 12 });
     }
     Ok(finish(alloc, place, path, name, forms)?)
@@ -202,7 +202,7 @@ fn utf8_fault(alloc: Global, number: u32, bytes: &[u8], offset: u32) -> ReadFaul
 ///
 /// The first of these faults is told: M3, the bytes are not UTF-8, at the end of their longest valid front; M4 to M8, the
 /// leftmost fault of a token; M9, there is no phrase, at the furthest token that was tried; M10, the phrase is nested too deep;
-/// M11, the header names another module, at that name; M12, a form that is not built yet, at the first of its tokens.
+/// M11, the header names another module, at that name; M12, a phrase whose parts are not those of its rule, at its first token.
 #[tactic(auto, unfolding(crate::specs::Read::read_of))]
 pub fn read_module(
     alloc: Global,

@@ -1,7 +1,0 @@
-use Rattle.std.proofs.Common.{◌≡◌, ◌++◌, drop}
-use Rattle.std.specs.List.{filter_map}
-use Rattle.rl_reader.specs.Parts.{as_name}
-use Rattle.rl_reader.proofs.parts.add_names.Given as goal
-
-abbrev pub invariant-loop-part : goal.invariant-loop-part
-invariant-loop-part l = l.found.items ++ filter_map as_name (drop l.part-index l.parts) ≡ l.initial.found.items ++ filter_map as_name l.parts
