@@ -79,7 +79,7 @@ fn show_declaration<R: Print>(rt: &R, declaration: &Decl) -> io::Result<()> {
 }
 
 /// Prints what is in the module.
-pub fn show_module<R: Print>(rt: &R, module: &Module) -> io::Result<()> {
+pub(crate) fn show_module<R: Print>(rt: &R, module: &Module) -> io::Result<()> {
     println!(rt; "module {} {}", module.name.as_str(), module.path.as_str())?;
     for declaration in module.declarations.as_slice() {
         show_declaration(rt, declaration)?;

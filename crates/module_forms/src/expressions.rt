@@ -205,7 +205,7 @@ fn show_container<R: Print>(rt: &R, expression: &Exp) -> io::Result<()> {
 }
 
 #[cycle(show)]
-pub fn show_expression<R: Print>(rt: &R, expression: &Exp) -> io::Result<()> {
+pub(crate) fn show_expression<R: Print>(rt: &R, expression: &Exp) -> io::Result<()> {
     begin(rt, word(expression), expression.place())?;
     show_marks(rt, expression)?;
     match expression {
@@ -282,7 +282,7 @@ pub fn show_expression<R: Print>(rt: &R, expression: &Exp) -> io::Result<()> {
 }
 
 #[cycle(show)]
-pub fn show_expressions<R: Print>(rt: &R, expressions: &[Shared<Exp>]) -> io::Result<()> {
+pub(crate) fn show_expressions<R: Print>(rt: &R, expressions: &[Shared<Exp>]) -> io::Result<()> {
     for expression in expressions {
         show_expression(rt, expression.get())?;
     }
@@ -414,7 +414,7 @@ fn show_assignment<R: Print>(rt: &R, statement: &Stat) -> io::Result<()> {
 }
 
 #[cycle(show)]
-pub fn show_statement<R: Print>(rt: &R, statement: &Stat) -> io::Result<()> {
+pub(crate) fn show_statement<R: Print>(rt: &R, statement: &Stat) -> io::Result<()> {
     begin(rt, statement_word(statement), statement.place())?;
     match statement {
         Stat::Block { body, .. } => show_statements(rt, body.as_slice())?,
@@ -484,7 +484,7 @@ pub fn show_statement<R: Print>(rt: &R, statement: &Stat) -> io::Result<()> {
 }
 
 #[cycle(show)]
-pub fn show_statements<R: Print>(rt: &R, statements: &[Shared<Stat>]) -> io::Result<()> {
+pub(crate) fn show_statements<R: Print>(rt: &R, statements: &[Shared<Stat>]) -> io::Result<()> {
     for statement in statements {
         show_statement(rt, statement.get())?;
     }

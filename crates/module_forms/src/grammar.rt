@@ -96,7 +96,7 @@ fn show_alternative<R: Print>(rt: &R, alternative: &Alt) -> io::Result<()> {
     Ok(())
 }
 
-pub fn show_definition<R: Print>(rt: &R, definition: &SyntaxDef) -> io::Result<()> {
+pub(crate) fn show_definition<R: Print>(rt: &R, definition: &SyntaxDef) -> io::Result<()> {
     begin(rt, "syntax", definition.place)?;
     print!(rt;
         " {} {:?} {}",

@@ -6,7 +6,7 @@ use rl_base::Shared;
 use rl_syntax::{Concrete, Pattern, PatternElement};
 use std::io;
 
-pub fn show_fragment<R: Print>(rt: &R, fragment: &Concrete) -> io::Result<()> {
+pub(crate) fn show_fragment<R: Print>(rt: &R, fragment: &Concrete) -> io::Result<()> {
     begin(rt, "fragment", fragment.place)?;
     print!(rt;
         " {}@{} {}",
@@ -59,7 +59,7 @@ fn show_leaf<R: Print>(rt: &R, pattern: &Pattern) -> io::Result<()> {
 }
 
 #[cycle(show_pattern)]
-pub fn show_pattern<R: Print>(rt: &R, pattern: &Pattern) -> io::Result<()> {
+pub(crate) fn show_pattern<R: Print>(rt: &R, pattern: &Pattern) -> io::Result<()> {
     begin(rt, word(pattern), pattern.place())?;
     match pattern {
         Pattern::TypedBinding {
@@ -102,7 +102,7 @@ pub fn show_pattern<R: Print>(rt: &R, pattern: &Pattern) -> io::Result<()> {
 }
 
 #[cycle(show_pattern)]
-pub fn show_patterns<R: Print>(rt: &R, patterns: &[Shared<Pattern>]) -> io::Result<()> {
+pub(crate) fn show_patterns<R: Print>(rt: &R, patterns: &[Shared<Pattern>]) -> io::Result<()> {
     for pattern in patterns {
         show_pattern(rt, pattern.get())?;
     }

@@ -23,7 +23,7 @@ fn word(ty: &Ty) -> &str {
 }
 
 #[cycle(show_type)]
-pub fn show_type<R: Print>(rt: &R, ty: &Ty) -> io::Result<()> {
+pub(crate) fn show_type<R: Print>(rt: &R, ty: &Ty) -> io::Result<()> {
     begin(rt, word(ty), ty.place())?;
     match ty {
         Ty::List { element, .. } | Ty::Set { element, .. } => show_type(rt, element.get())?,
@@ -41,7 +41,7 @@ pub fn show_type<R: Print>(rt: &R, ty: &Ty) -> io::Result<()> {
 }
 
 #[cycle(show_type)]
-pub fn show_fields<R: Print>(rt: &R, fields: &[Field]) -> io::Result<()> {
+pub(crate) fn show_fields<R: Print>(rt: &R, fields: &[Field]) -> io::Result<()> {
     for field in fields {
         show_type(rt, field.ty.get())?;
         if let Some(name) = &field.name {
