@@ -1,7 +1,7 @@
 -- The line and the column of an offset, by where the lines begin.
 use Rattle.std.proofs.Common.{◌≡◌, ℕ, suc, zero, ◌+◌, ◌-◌, ◌<◌, ◌≤◌, Bool, true, false, cond, eqb, List, [], ◌∷◌, length, get_or, take, count_by, refl, subst, arith, zero-add, sub-one}
 use Rattle.std.proofs.lemmas.List.Sums.{sum_by-cons}
-use Rattle.rl_base.specs.Lines.{line_starts}
+use Rattle.rl_base.specs.Lines.{line_starts, IsCount}
 use Rattle.rl_base.specs.Text.{line_behind, column_behind}
 
 -- the starts of lines, where the first character is a line feed or not
@@ -38,19 +38,13 @@ pub length-line_starts : (cs : List ℕ) (n : ℕ) → length (line_starts n cs)
 length-line_starts [] n = omega arith
 length-line_starts (c ∷ cs) n = step_count (eqb c 10) (line_starts (n + 1) cs) n (length cs) (length-line_starts cs (n + 1))
 
--- k of the numbers are at most t: those in front
-pub record Splits (starts : List ℕ) (k t : ℕ) : Type 0 where
-  pub within : k ≤ length starts
-  pub below : (j : ℕ) → j < k → get_or starts j 0 ≤ t
-  pub above : (j : ℕ) → k ≤ j → j < length starts → t < get_or starts j 0
-
 -- k line feeds were met in front of the offset, and the column there is the one behind the last of them
 pub record IsBehind (starts : List ℕ) (met column k first offset : ℕ) : Type 0 where
   pub count : met ≡ k
   pub first_line : k ≡ 0 → column ≡ first
   pub later_line : 0 < k → column + get_or starts (k - 1) 0 ≡ 1 + offset
 
-behind_start : (starts : List ℕ) (n k column : ℕ) → ((i : ℕ) → i < length starts → n < get_or starts i 0) → Splits starts k (n + 0) → IsBehind starts 0 column k (column + 0) (n + 0)
+behind_start : (starts : List ℕ) (n k column : ℕ) → ((i : ℕ) → i < length starts → n < get_or starts i 0) → IsCount starts (n + 0) k → IsBehind starts 0 column k (column + 0) (n + 0)
 behind_start starts n zero column above s = record { count = refl; first_line = λ _. omega arith; later_line = λ h. absurd (omega arith) }
 behind_start starts n (suc k) column above s =
     let w = s.within in
@@ -63,7 +57,7 @@ behind_later starts n o zero met column r = let e = r.first_line refl in omega a
 behind_later starts n o (suc k) met column r =
     let e : column + get_or starts k 0 ≡ 1 + (n + 1 + o) = rw sub-one at (r.later_line (omega arith)) in omega arith
 
-behind_feed : (starts : List ℕ) (n o k met column : ℕ) (column_from : ℕ → ℕ) → ((k column : ℕ) → Splits starts k (n + 1 + o) → IsBehind starts met (column_from column) k (column + o) (n + 1 + o)) → Splits ((n + 1) ∷ starts) k (n + suc o) → IsBehind ((n + 1) ∷ starts) (1 + met) (column_from 1) k (column + suc o) (n + suc o)
+behind_feed : (starts : List ℕ) (n o k met column : ℕ) (column_from : ℕ → ℕ) → ((k column : ℕ) → IsCount starts (n + 1 + o) k → IsBehind starts met (column_from column) k (column + o) (n + 1 + o)) → IsCount ((n + 1) ∷ starts) (n + suc o) k → IsBehind ((n + 1) ∷ starts) (1 + met) (column_from 1) k (column + suc o) (n + suc o)
 behind_feed starts n o zero met column column_from rest s =
     let w = s.within in
     let a = s.above 0 (omega arith) (omega arith) in
@@ -73,16 +67,16 @@ behind_feed starts n o (suc k) met column column_from rest s =
     let r = rest k 1 (record { within = omega arith; below = λ j h. let b = s.below (suc j) (omega arith) in omega arith; above = λ j h l. let b = s.above (suc j) (omega arith) (omega arith) in omega arith }) in
     record { count = let c = r.count in omega arith; first_line = λ h. absurd (omega arith); later_line = λ _. rw sub-one (behind_later starts n o k met (column_from 1) r) }
 
-behind_other : (starts : List ℕ) (n o k met column : ℕ) (column_from : ℕ → ℕ) → ((k column : ℕ) → Splits starts k (n + 1 + o) → IsBehind starts met (column_from column) k (column + o) (n + 1 + o)) → Splits starts k (n + suc o) → IsBehind starts met (column_from (column + 1)) k (column + suc o) (n + suc o)
+behind_other : (starts : List ℕ) (n o k met column : ℕ) (column_from : ℕ → ℕ) → ((k column : ℕ) → IsCount starts (n + 1 + o) k → IsBehind starts met (column_from column) k (column + o) (n + 1 + o)) → IsCount starts (n + suc o) k → IsBehind starts met (column_from (column + 1)) k (column + suc o) (n + suc o)
 behind_other starts n o k met column column_from rest s =
     let r = rest k (column + 1) (record { within = s.within; below = λ j h. let b = s.below j h in omega arith; above = λ j h l. let b = s.above j h l in omega arith }) in
     record { count = r.count; first_line = λ h. let e = r.first_line h in omega arith; later_line = λ h. let e = r.later_line h in omega arith }
 
-behind_step : (b : Bool) (starts : List ℕ) (n o k met column : ℕ) (column_from : ℕ → ℕ) → ((k column : ℕ) → Splits starts k (n + 1 + o) → IsBehind starts met (column_from column) k (column + o) (n + 1 + o)) → Splits (either b n starts) k (n + suc o) → IsBehind (either b n starts) (cond b 1 0 + met) (column_from (cond b 1 (column + 1))) k (column + suc o) (n + suc o)
+behind_step : (b : Bool) (starts : List ℕ) (n o k met column : ℕ) (column_from : ℕ → ℕ) → ((k column : ℕ) → IsCount starts (n + 1 + o) k → IsBehind starts met (column_from column) k (column + o) (n + 1 + o)) → IsCount (either b n starts) (n + suc o) k → IsBehind (either b n starts) (cond b 1 0 + met) (column_from (cond b 1 (column + 1))) k (column + suc o) (n + suc o)
 behind_step true starts n o k met column column_from rest s = behind_feed starts n o k met column column_from rest s
 behind_step false starts n o k met column column_from rest s = rw zero-add (behind_other starts n o k met column column_from rest s)
 
-pub behind : (cs : List ℕ) (n o k column : ℕ) → o ≤ length cs → Splits (line_starts n cs) k (n + o) → IsBehind (line_starts n cs) (count_by (λ c. eqb c 10) (take o cs)) (column_behind column (take o cs)) k (column + o) (n + o)
+pub behind : (cs : List ℕ) (n o k column : ℕ) → o ≤ length cs → IsCount (line_starts n cs) (n + o) k → IsBehind (line_starts n cs) (count_by (λ c. eqb c 10) (take o cs)) (column_behind column (take o cs)) k (column + o) (n + o)
 behind cs n zero k column l s = behind_start (line_starts n cs) n k column (line_starts_above cs n) s
 behind [] n (suc o) k column l s = absurd (omega arith)
 behind (c ∷ cs) n (suc o) k column l s =
@@ -95,7 +89,7 @@ pub record IsPlaced (text : List ℕ) (offset k start : ℕ) : Type 0 where
   pub column : column_behind 1 (take offset text) ≡ offset - start + 1
   pub few : k ≤ length text
 
-placed_from : (text : List ℕ) (offset k start : ℕ) → IsBehind (line_starts 0 text) (count_by (λ c. eqb c 10) (take offset text)) (column_behind 1 (take offset text)) k (1 + offset) (0 + offset) → Splits (line_starts 0 text) k offset → (k ≡ 0 → start ≡ 0) → (0 < k → start ≡ get_or (line_starts 0 text) (k - 1) 0) → k ≤ length text → IsPlaced text offset k start
+placed_from : (text : List ℕ) (offset k start : ℕ) → IsBehind (line_starts 0 text) (count_by (λ c. eqb c 10) (take offset text)) (column_behind 1 (take offset text)) k (1 + offset) (0 + offset) → IsCount (line_starts 0 text) offset k → (k ≡ 0 → start ≡ 0) → (0 < k → start ≡ get_or (line_starts 0 text) (k - 1) 0) → k ≤ length text → IsPlaced text offset k start
 placed_from text offset zero start b s first later few =
     let f = first refl in
     let e = b.first_line refl in
@@ -108,11 +102,11 @@ placed_from text offset (suc k) start b s first later few =
     let l = s.below (suc k - 1) (omega arith) in
     record { line = omega arith; within = omega arith; column = omega arith; few = few }
 
-pub placed : (text starts : List ℕ) (offset k start : ℕ) → starts ≡ line_starts 0 text → offset ≤ length text → Splits starts k offset → (k ≡ 0 → start ≡ 0) → (0 < k → start ≡ get_or starts (k - 1) 0) → IsPlaced text offset k start
+pub placed : (text starts : List ℕ) (offset k start : ℕ) → starts ≡ line_starts 0 text → offset ≤ length text → IsCount starts offset k → (k ≡ 0 → start ≡ 0) → (0 < k → start ≡ get_or starts (k - 1) 0) → IsPlaced text offset k start
 placed text starts offset k start e l s first later =
-    let P : List ℕ → Type 0 = λ xs. Splits xs k offset in
+    let P : List ℕ → Type 0 = λ xs. IsCount xs offset k in
     let split = subst P e s in
-    let split_0 : Splits (line_starts 0 text) k (0 + offset) = rw zero-add split in
+    let split_0 : IsCount (line_starts 0 text) (0 + offset) k = rw zero-add split in
     let b = behind text 0 offset k 1 l split_0 in
     let w = split.within in
     placed_from text offset k start b split first (rw (← e) later) (omega (arith, length-line_starts text 0))

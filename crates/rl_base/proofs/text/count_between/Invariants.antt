@@ -1,5 +1,5 @@
 use Rattle.std.proofs.Common.{◌-◌, ℕ, ◌≤◌, ◌<◌, length, slice_index}
-use Rattle.rl_base.proofs.text.count_at_most.Given as goal
+use Rattle.rl_base.proofs.text.count_between.Given as goal
 
 -- the numbers below `low` are at most the bound, and those from `high` on are above it
 abbrev pub invariant-loop-low : goal.invariant-loop-low
