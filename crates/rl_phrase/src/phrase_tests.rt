@@ -4,7 +4,7 @@ ghost use Rattle.rl_phrase.specs.Answer.{IsNamed};
 use crate::phrase::{PhraseFault, phrase};
 use crate::table::{Form, Rule};
 use crate::tree::{Part, Phrase};
-use rl_tokens::{Entry, Tokens};
+use rl_tokens::Tokens;
 use std::alloc::{AllocError, Global};
 use std::test::Fail;
 
@@ -104,11 +104,11 @@ fn is_named(rules: &[Rule], row: u32) -> bool
 fn tokens_of(alloc: Global, kinds: &[u32]) -> Result<Tokens, AllocError>
     requires { length kinds.now ≤ 2 ^ 25 }
 {
-    let mut entries = Vec::new(alloc);
+    let mut list = Tokens::new(alloc);
     for kind in kinds {
-        entries.push(Entry::new(*kind, String::new(alloc), 0, 0))?;
+        list.push(*kind, &[], 0)?;
     }
-    Ok(Tokens::new(entries))
+    Ok(list)
 }
 
 // What a named row of the table gives.

@@ -1,3 +1,4 @@
+pub mod EntryLemmas
 pub mod NumberLemmas
 pub mod PlacedLemmas
 pub mod QuotedLemmas

@@ -1,9 +1,10 @@
 -- The tokens of a text, one step at a time.
-use Rattle.std.proofs.Common.{◌≡◌, ℕ, zero, suc, ◌+◌, ◌-◌, ◌<◌, ◌≤◌, Bool, List, [], ◌∷◌, ◌++◌, length, drop, refl, sym, ap, subst, ◌∙◌, arith, add-zero, length-drop}
+use Rattle.std.proofs.Common.{◌≡◌, ℕ, zero, suc, ◌+◌, ◌-◌, ◌<◌, ◌≤◌, Bool, List, [], ◌∷◌, ◌++◌, length, drop, refl, sym, ap, subst, ◌∙◌, arith, add-zero, length-append, length-drop}
 use Rattle.std.proofs.lemmas.List.{drop-drop, append_assoc}
-use Rattle.std.specs.Prelude.{Option, None}
+use Rattle.std.specs.Prelude.{Option, Some, None}
 use Rattle.rl_tokens.specs.declared.fault.Fault.{Fault}
 use Rattle.rl_tokens.specs.declared.lexeme.Lexeme.{Lexeme}
+use Rattle.rl_tokens.specs.declared.lexeme.Nest.{Nest}
 use Rattle.rl_tokens.specs.Token.{Token}
 use Rattle.rl_tokens.specs.Fault.{leftmost_from}
 use Rattle.rl_tokens.proofs.QuotedLemmas.{leftmost_from-append}
@@ -84,3 +85,14 @@ module _ (grammar : Bool) (opens : List Open) (text : List ℕ) (at : ℕ) (list
       let ends = ap (λ l. l.end) is in
       let P : Lexeme → Type 0 = λ l. Keeps (list ++ tokens_of at (drop at text) l) (leftmost_from first step.faults) (left_behind grammar opens text l) whole in
       subst P (sym is) (kept_by step refl (omega arith) (omega arith) keeps)
+
+-- there are no more tokens than characters
+pub few_step : (list : List Token) (at : ℕ) (text : List ℕ) (lexeme : Lexeme) → length list ≤ at → at < lexeme.end → length (list ++ tokens_of at text lexeme) ≤ lexeme.end
+few_step list at text lexeme few moves = few_by lexeme.kind lexeme.end lexeme.nest few moves
+  where
+    few_by : (kind : Option ℕ) (end : ℕ) (nest : Nest) → length list ≤ at → at < end →
+        let l : Lexeme = record { kind = kind; end = end; nest = nest } in length (list ++ tokens_of at text l) ≤ end
+    few_by None end nest few moves = let longer = length-append list [] in omega (arith, longer, few, moves)
+    few_by (Some kind) end nest few moves =
+        let l : Lexeme = record { kind = Some kind; end = end; nest = nest } in
+        let longer = length-append list (tokens_of at text l) in omega (arith, longer, few, moves)

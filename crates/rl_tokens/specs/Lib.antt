@@ -1,3 +1,4 @@
+pub mod Entry
 pub mod Fault
 pub mod Hole
 pub mod Lexeme

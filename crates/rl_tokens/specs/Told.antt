@@ -1,5 +1,5 @@
 -- A fault as the caller is told it, as a function.
-use Rattle.std.specs.Prelude.{◌≡◌, ℕ, refl}
+use Rattle.std.specs.Prelude.{◌≡◌, ℕ}
 use Rattle.std.proofs.Common.{ap}
 use Rattle.rl_tokens.specs.Fault.{IsTold}
 use Rattle.rl_tokens.specs.declared.fault.Fault.{Fault}

@@ -1,50 +1,19 @@
 //! The list of tokens.
 
-ghost use Rattle.std.specs.Prelude.{◌≡◌, ◌<◌, ◌≤◌, ◌^◌, length, slice_get, Some};
+ghost use Rattle.std.specs.Prelude.{◌≡◌, ◌<◌, ◌≤◌, ◌^◌, ◌++◌, [], ◌∷◌, List, ℕ, length, encode_utf8_all, slice_get, IfOk, OnOk, Some};
+ghost use Rattle.std.specs.String.{string_bytes};
 
+use std::alloc::{AllocError, Global};
 use std::marker::Model;
 
-/// A token. Contracts see it as its kind, its text and its place.
-#[derive(Drop)]
-pub struct Entry {
+// A token, whose text is the bytes `from..to` of the text that all tokens share.
+#[derive(Clone, Copy, Debug)]
+struct Entry {
     kind: u32,
-    text: String,
     offset: u32,
     length: u32,
-}
-
-impl Model for Entry {
-    ghost use Rattle.std.specs.String.{string_bytes};
-    ghost use Rattle.rl_tokens.specs.Token.{Token};
-
-    ghost Value = { Token };
-
-    ghost view = { λ e. record {
-      kind = e.kind;
-      text = string_bytes e.text;
-      offset = e.offset;
-      length = e.length;
-    } };
-}
-
-impl Entry {
-    ghost use Rattle.std.specs.String.{string_bytes};
-
-    pub fn new(kind: u32, text: String, offset: u32, length: u32) -> Entry
-        ensures { result ≡ record {
-          kind = kind;
-          text = string_bytes text;
-          offset = offset;
-          length = length;
-        } }
-    {
-        Entry {
-            kind,
-            text,
-            offset,
-            length,
-        }
-    }
+    from: u32,
+    to: u32,
 }
 
 /// The tokens of a text, each with its kind, its text and its place.
@@ -52,29 +21,83 @@ impl Entry {
 /// The last one is the end of the text. Contracts see it as the list of the tokens.
 #[derive(Drop)]
 pub struct Tokens {
+    // The texts of the tokens, one behind the other.
+    texts: String,
     entries: Vec<Entry>,
 }
 
 impl Model for Tokens {
-    ghost use Rattle.std.specs.Prelude.{List, ◌≤◌, ◌^◌, length};
+    ghost use Rattle.std.specs.Prelude.{List, All, ◌≤◌, ◌^◌, length};
+    ghost use Rattle.std.specs.String.{string_bytes};
     ghost use Rattle.rl_tokens.specs.Token.{Token};
 
     ghost Value = { List Token };
 
-    ghost view = { λ t. t.entries.items };
+    ghost use Rattle.rl_tokens.specs.Entry.{tokens_of, IsPiece};
 
-    ghost invariant = { λ t. length t.entries.items ≤ 2 ^ 25 };
+    ghost view = { λ t. tokens_of (string_bytes t.texts) t.entries.items };
+
+    ghost invariant = { λ t.
+        (length t.entries.items ≤ 2 ^ 25)
+        × All (IsPiece (string_bytes t.texts)) t.entries.items };
+}
+
+// Adds the characters to the text; without memory, some of them.
+fn append(texts: &mut String, chars: &[char]) -> Result<(), AllocError>
+    ensures all { OnOk result
+        (string_bytes texts.new ≡ string_bytes texts.old ++ encode_utf8_all chars.now) }
+    ensures some { (added : List ℕ) × (string_bytes texts.new ≡ string_bytes texts.old ++ added) }
+{
+    for c in chars {
+        texts.push(*c)?;
+    }
+    Ok(())
+}
+
+// How many bytes the text has. One of 4 GiB counts as want of memory.
+fn size(text: &str) -> Result<u32, AllocError>
+    ensures { IfOk result (λ bytes. bytes ≡ length text.now) }
+{
+    u32::try_from(text.len()).map_err(|_| AllocError)
 }
 
 impl Tokens {
     ghost use Rattle.rl_tokens.specs.Token.{kinds_of, texts_of, offsets_of, lengths_of};
 
-    /// The tokens of these entries.
-    pub fn new(entries: Vec<Entry>) -> Tokens
-        requires { length entries.items ≤ 2 ^ 25 }
-        ensures { result ≡ entries.items }
+    /// No tokens.
+    pub fn new(alloc: Global) -> Tokens
+        ensures { result ≡ [] }
     {
-        Tokens { entries }
+        Tokens {
+            texts: String::new(alloc),
+            entries: Vec::new(alloc),
+        }
+    }
+
+    /// Adds a token with the characters of `text`.
+    ///
+    /// Memory is wanting, too, where the texts of all tokens together have 2^32 bytes or more.
+    pub fn push(&mut self, kind: u32, text: &[char], offset: u32) -> Result<(), AllocError>
+        requires few { length self.old < 2 ^ 25 }
+        requires short { length text.now < 2 ^ 32 }
+        ensures { OnOk result (self.new ≡ self.old ++ record {
+          kind = kind;
+          text = encode_utf8_all text.now;
+          offset = offset;
+          length = length text.now;
+        } ∷ []) }
+    {
+        let from = size(self.texts.as_str())?;
+        append(&mut self.texts, text)?;
+        let to = size(self.texts.as_str())?;
+        self.entries.push(Entry {
+            kind,
+            offset,
+            length: text.len() as u32,
+            from,
+            to,
+        })?;
+        Ok(())
     }
 
     /// How many tokens there are.
@@ -89,7 +112,7 @@ impl Tokens {
         requires { i < length self.now }
         ensures { slice_get (kinds_of self.now) i ≡ Some result }
     {
-        let entry = &self.entries[i as usize];
+        let entry = self.entries[i as usize];
         entry.kind
     }
 
@@ -98,8 +121,8 @@ impl Tokens {
         requires { i < length self.now }
         ensures { slice_get (texts_of self.now) i ≡ Some result.now }
     {
-        let entry = &self.entries[i as usize];
-        entry.text.as_str()
+        let entry = self.entries[i as usize];
+        &self.texts[entry.from as usize..entry.to as usize]
     }
 
     /// How many characters of the text stand in front of the token.
@@ -107,7 +130,7 @@ impl Tokens {
         requires { i < length self.now }
         ensures { slice_get (offsets_of self.now) i ≡ Some result }
     {
-        let entry = &self.entries[i as usize];
+        let entry = self.entries[i as usize];
         entry.offset
     }
 
@@ -116,7 +139,7 @@ impl Tokens {
         requires { i < length self.now }
         ensures { slice_get (lengths_of self.now) i ≡ Some result }
     {
-        let entry = &self.entries[i as usize];
+        let entry = self.entries[i as usize];
         entry.length
     }
 }

@@ -12,7 +12,7 @@ mod set;
 pub mod terminal;
 mod word;
 
-pub use entry::{Entry, Tokens};
+pub use entry::Tokens;
 pub use fault::TokenFault;
 pub use scan::tokens;
 

@@ -1,12 +1,11 @@
 //! The tokens of a text, in one pass.
 
-ghost use Rattle.std.specs.Prelude.{◌≡◌, ◌≤◌, ◌<◌, ◌+◌, ◌^◌, ◌++◌, length, IfOk, OnOk, encode_utf8_all, vec_len};
-ghost use Rattle.std.specs.String.{string_bytes};
+ghost use Rattle.std.specs.Prelude.{◌≡◌, ◌≤◌, ◌<◌, ◌+◌, ◌^◌, ◌++◌, length, IfOk, OnOk};
 ghost use Rattle.rl_tokens.specs.Fault.{Notes, leftmost};
 ghost use Rattle.rl_tokens.specs.Placed.{IsPlaced};
 ghost use Rattle.rl_tokens.specs.Scan as spec;
 
-use crate::entry::{Entry, Tokens};
+use crate::entry::Tokens;
 use crate::fault::{Faults, Flaw, TokenFault};
 use crate::lexeme::{Lexeme, Nest, Open, front, grammar_behind};
 use crate::terminal::END;
@@ -42,46 +41,27 @@ fn note_unclosed(opens: &[Open], faults: &mut Faults)
     }
 }
 
-fn text_of(alloc: Global, chars: &[char]) -> Result<String, AllocError>
-    ensures { IfOk result (λ text. string_bytes text ≡ encode_utf8_all chars.now) }
-{
-    let mut text = String::new(alloc);
-    for c in chars {
-        text.push(*c)?;
-    }
-    Ok(text)
-}
-
 // Adds what stands at the offset, if it is a token.
-fn push(
-    alloc: Global,
-    list: &mut Vec<Entry>,
-    offset: u32,
-    text: &[char],
-    lexeme: Lexeme,
-) -> Result<(), AllocError>
-    requires { (offset < lexeme.end) × (lexeme.end ≤ offset + length text.now) }
-    ensures added { OnOk result
-        (list.new.items ≡ list.old.items ++ spec.tokens_of offset text.now lexeme) }
-    ensures few { OnOk result (vec_len list.new ≤ vec_len list.old + 1) }
+fn push(list: &mut Tokens, offset: u32, text: &[char], lexeme: Lexeme) -> Result<(), AllocError>
+    requires few { length list.old < 2 ^ 25 }
+    requires within { (offset < lexeme.end) × (lexeme.end ≤ offset + length text.now) }
+    ensures { OnOk result (list.new ≡ list.old ++ spec.tokens_of offset text.now lexeme) }
 {
     if let Some(kind) = lexeme.kind {
         let length = lexeme.end - offset;
-        let text = text_of(alloc, &text[..length as usize])?;
-        list.push(Entry::new(kind, text, offset, length))?;
+        list.push(kind, &text[..length as usize], offset)?;
     }
     Ok(())
 }
 
-fn scan(alloc: Global, text: &[char]) -> Result<(Vec<Entry>, Faults), AllocError>
+fn scan(alloc: Global, text: &[char]) -> Result<(Tokens, Faults), AllocError>
     requires { length text.now ≤ 2 ^ 24 }
-    ensures tokens { IfOk result (λ found. found.0.items ≡ (spec.tokens_in text.now).tokens) }
+    ensures tokens { IfOk result (λ found. found.0 ≡ (spec.tokens_in text.now).tokens) }
     ensures faults { IfOk result (λ found.
         found.1.first ≡ leftmost (spec.tokens_in text.now).faults) }
-    ensures few { IfOk result (λ found. length found.0.items ≤ 2 ^ 25) }
-    ensures placed { IfOk result (λ found. IsPlaced text.now 0 (length text.now) found.0.items) }
+    ensures placed { IfOk result (λ found. IsPlaced text.now 0 (length text.now) found.0) }
 {
-    let mut list = Vec::new(alloc);
+    let mut list = Tokens::new(alloc);
     let mut faults = Faults::new();
     let mut opens = Vec::new(alloc);
     let mut grammar = false;
@@ -89,13 +69,13 @@ fn scan(alloc: Global, text: &[char]) -> Result<(Vec<Entry>, Faults), AllocError
     while at < text.len() {
         let rest = &text[at..];
         let lexeme = front(at as u32, grammar, innermost(&opens), rest, &mut faults);
-        push(alloc, &mut list, at as u32, rest, lexeme)?;
+        push(&mut list, at as u32, rest, lexeme)?;
         apply(&mut opens, lexeme.nest)?;
         grammar = grammar_behind(grammar, lexeme.kind);
         at = lexeme.end as usize;
     }
     note_unclosed(&opens, &mut faults);
-    list.push(Entry::new(END, String::new(alloc), at as u32, 0))?;
+    list.push(END, &[], at as u32)?;
     Ok((list, faults))
 }
 
@@ -111,7 +91,7 @@ pub fn tokens(alloc: Global, text: &Chars) -> Result<Tokens, TokenFault>
 {
     match scan(alloc, text.as_slice()) {
         Ok((list, faults)) => match faults.first {
-            None => Ok(Tokens::new(list)),
+            None => Ok(list),
             Some(fault) => Err(fault.told()),
         },
         Err(AllocError) => Err(TokenFault::OutOfMemory),

@@ -2,4 +2,4 @@ use Rattle.std.proofs.Common.{◌≡◌, length}
 use Rattle.rl_phrase.proofs.phrase_tests.tokens_of.Given as goal
 
 abbrev pub invariant-loop-kind : goal.invariant-loop-kind
-invariant-loop-kind l = length l.entries.items ≡ l.kind-index
+invariant-loop-kind l = length l.list ≡ l.kind-index

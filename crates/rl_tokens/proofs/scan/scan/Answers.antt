@@ -6,9 +6,8 @@ use Rattle.rl_tokens.specs.Scan.{innermost, unclosed, end_token, tokens_of, scan
 use Rattle.rl_tokens.specs.Token.{Token}
 use Rattle.rl_tokens.specs.Placed.{IsPlaced}
 use Rattle.rl_tokens.proofs.PlacedLemmas.{placed_push, placed_step}
-use Rattle.rl_tokens.specs.declared.terminal.TheConstants.{END}
 use Rattle.std.specs.Prelude.{None}
-use Rattle.rl_tokens.proofs.ScanLemmas.{kept}
+use Rattle.rl_tokens.proofs.ScanLemmas.{kept, few_step}
 use Rattle.rl_tokens.proofs.scan.scan.Goals as goal
 
 pub loop-at-preserved : goal.loop-at-preserved
@@ -26,14 +25,15 @@ loop-at-preserved c =
     c.front-lexeme.ensures.faults
     ∙ (ap (λ t. leftmost_from c.loop-at.faults.first (front at grammar c.innermost.result t).faults) here
     ∙ ap (λ i. leftmost_from c.loop-at.faults.first (front at grammar i (drop at text)).faults) inner) in
-    let added = c.in_ok-push.ensures.added ∙ ap (λ t. c.loop-at.list.items ++ tokens_of at t lexeme) here in
+    let added = c.in_ok-push.ensures ∙ ap (λ t. c.loop-at.list ++ tokens_of at t lexeme) here in
     let within = c.front-lexeme.ensures.within in
     let length_here = ap (λ t. length t) here in
     let left = length-drop at text in
-    let keeps = kept grammar opens text at c.loop-at.list.items c.loop-at.faults.first (scan 0 false [] 0 text) lexeme is (omega arith) (omega arith)
+    let keeps = kept grammar opens text at c.loop-at.list c.loop-at.faults.first (scan 0 false [] 0 text) lexeme is (omega arith) (omega arith)
     (record { tokens = c.loop-at.invariant.tokens; faults = c.loop-at.invariant.faults }) in
-    let few : length c.push.new.list.items ≤ lexeme.end = omega (arith, c.push.new.list.ok.0, c.loop-at.list.ok.0, c.in_ok-push.ensures.few, c.loop-at.invariant.few) in
-    rw (added, faults, c.grammar_behind-grammar.ensures, c.in_ok-apply.ensures) (record { within = omega arith; placed = placed_step text 0 at c.loop-at.list.items lexeme c.loop-at.invariant.placed (omega arith); few = rw added at few; tokens = keeps.tokens; faults = keeps.faults })
+    let few : length (c.loop-at.list ++ tokens_of at (drop at text) lexeme) ≤ lexeme.end =
+    few_step c.loop-at.list at (drop at text) lexeme c.loop-at.invariant.few (omega arith) in
+    rw (added, faults, c.grammar_behind-grammar.ensures, c.in_ok-apply.ensures) (record { within = omega arith; placed = placed_step text 0 at c.loop-at.list lexeme c.loop-at.invariant.placed (omega arith); few = few; tokens = keeps.tokens; faults = keeps.faults })
 
 pub returns : goal.returns
 unfolding tokens_in
@@ -42,7 +42,7 @@ returns c =
     let at = c.loop-at.at in
     let grammar = c.loop-at.grammar in
     let opens = c.loop-at.opens.items in
-    let list = c.loop-at.list.items in
+    let list = c.loop-at.list in
     let first = c.loop-at.faults.first in
     let whole = scan 0 false [] 0 text in
     let done : drop at text ≡ [] = drop_all at text (omega arith) in
@@ -50,12 +50,10 @@ returns c =
     sym (ap (λ t. list ++ (scan 0 grammar opens at t).tokens) done) ∙ c.loop-at.invariant.tokens in
     let faults : leftmost_from first (unclosed opens) ≡ leftmost_from None whole.faults =
     sym (ap (λ t. leftmost_from first (scan 0 grammar opens at t).faults) done) ∙ c.loop-at.invariant.faults in
-    let entry : c.new-2.result ≡ end_token at = c.new-2.ensures ∙ ap (λ bytes. let t : Token = record { kind = END; text = bytes; offset = at; length = 0 } in t) c.new.ensures.bytes in
-    let items : c.push-2.new.self.items ≡ list ++ end_token at ∷ [] = c.in_ok-push-2.ensures.items ∙ ap (λ e. list ++ e ∷ []) entry in
+    let items : c.push-2.new.self ≡ list ++ end_token at ∷ [] = c.in_ok-push-2.ensures in
     let Placed : List Token → Type 0 = λ tokens. IsPlaced text 0 (length text) tokens in
     record {
       tokens = items ∙ tokens;
       faults = c.note_unclosed.ensures ∙ (ap (λ o. leftmost_from first (unclosed o)) c.deref-2.ensures.value ∙ faults);
-      few = omega (arith, c.push-2.new.self.ok.0, c.loop-at.list.ok.0, c.in_ok-push-2.ensures.len, c.loop-at.invariant.few);
       placed = subst Placed (sym items) (placed_push text 0 at (length text) list (end_token at) c.loop-at.invariant.placed (omega arith) refl (omega arith));
     }

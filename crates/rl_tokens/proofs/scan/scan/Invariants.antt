@@ -11,9 +11,9 @@ invariant-loop-at l =
     let whole = spec.scan 0 false [] 0 l.text in
     record {
       within : l.at ≤ length l.text;
-      placed : IsPlaced l.text 0 l.at l.list.items;
-      few : length l.list.items ≤ l.at;
-      tokens : l.list.items ++ left.tokens ≡ whole.tokens;
+      placed : IsPlaced l.text 0 l.at l.list;
+      few : length l.list ≤ l.at;
+      tokens : l.list ++ left.tokens ≡ whole.tokens;
       faults : leftmost_from l.faults.first left.faults ≡ leftmost_from None whole.faults;
     }
 
