@@ -1,11 +1,14 @@
 //! Words and symbols, by tables of the terminals.
 
-ghost use Rattle.std.specs.Prelude.{◌≡◌, ◌≤◌, ◌<◌, length, map, IfSome, slice_index, true};
+ghost use Rattle.std.specs.Prelude.{◌≡◌, ◌≤◌, ◌<◌, length, map, IfSome, slice_index, true, Bool, List, ℕ, ◌∷◌, Some};
 ghost use Rattle.rl_tokens.specs.Set.{is_in};
 ghost use Rattle.rl_tokens.specs.Word as spec;
 
 use crate::set::{Set, is_in, peek, run};
-use crate::terminal::{GRAMMAR_SYMBOLS, HYPHENED, LOWER_ID, SYMBOLS, UPPER_ID, WORDS};
+use crate::terminal::{
+    CLOSE_BRACE, CLOSE_BRACKET, CLOSE_PARENTHESIS, COMMA, GRAMMAR_SYMBOLS, HYPHENED, LOWER_ID,
+    OPEN_BRACE, OPEN_BRACKET, OPEN_PARENTHESIS, SEMICOLON, SYMBOLS, UPPER_ID, WORDS,
+};
 
 // Whether the text begins with the word, which is ASCII.
 pub(crate) fn begins(word: &str, text: &[char]) -> bool
@@ -113,9 +116,39 @@ pub(crate) fn symbol(grammar: bool, text: &[char]) -> Option<(usize, u32)>
     ensures value { result ≡ spec.symbol grammar text.now }
     ensures within { IfSome result (λ found. (0 < found.0) × (found.0 ≤ length text.now)) }
 {
+    match mark(peek(text, 0)) {
+        Some(number) => Some((1, number)),
+        None => longest_symbol(grammar, text),
+    }
+}
+
+#[tactic(auto, unfolding(crate::specs::Word::symbol))]
+fn longest_symbol(grammar: bool, text: &[char]) -> Option<(usize, u32)>
+    ensures value { result ≡ spec.symbol grammar text.now }
+    ensures within { IfSome result (λ found. (0 < found.0) × (found.0 ≤ length text.now)) }
+{
     match grammar_symbol(grammar, text) {
         Some(found) => Some(found),
         None => first_row(&SYMBOLS, text),
+    }
+}
+
+// The number of a mark that begins no longer symbol, of the most common ones.
+fn mark(c: char) -> Option<u32>
+    ensures value { IfSome result (λ number.
+        (grammar : Bool) → (rest : List ℕ) → spec.symbol grammar (c ∷ rest) ≡ Some (1, number)) }
+    ensures text { IfSome result (λ _. 0 < c) }
+{
+    match c {
+        '(' => Some(OPEN_PARENTHESIS),
+        ')' => Some(CLOSE_PARENTHESIS),
+        '[' => Some(OPEN_BRACKET),
+        ']' => Some(CLOSE_BRACKET),
+        '{' => Some(OPEN_BRACE),
+        '}' => Some(CLOSE_BRACE),
+        ',' => Some(COMMA),
+        ';' => Some(SEMICOLON),
+        _ => None,
     }
 }
 

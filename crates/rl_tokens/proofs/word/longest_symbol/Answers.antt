@@ -1,7 +1,7 @@
 use Rattle.std.proofs.Common.{◌∙◌, ap}
 use Rattle.rl_tokens.specs.Word.{symbol, symbol_or, first_row}
 use Rattle.rl_tokens.proofs.TableLemmas.{symbols_are, symbols_no_empty}
-use Rattle.rl_tokens.proofs.word.symbol.Goals as goal
+use Rattle.rl_tokens.proofs.word.longest_symbol.Goals as goal
 
 pub first_row-requires : goal.first_row-requires
 first_row-requires c = symbols_no_empty
