@@ -1,12 +1,8 @@
 -- The tables of the code are those of the definitions.
 use Rattle.std.proofs.Common.{◌≡◌, true, map, refl}
-use Rattle.rl_tokens.specs.Terminal.{words, hyphened, symbols, grammar_symbols}
+use Rattle.rl_tokens.specs.Terminal.{hyphened, symbols, grammar_symbols}
 use Rattle.rl_tokens.specs.Word.{has_no_empty}
-use Rattle.rl_tokens.specs.declared.terminal.TheConstants.{WORDS, HYPHENED, SYMBOLS, GRAMMAR_SYMBOLS}
-
-pub words_are : map (λ row. (row.0.now, row.1)) WORDS ≡ words
-unfolding words
-words_are = refl
+use Rattle.rl_tokens.specs.declared.terminal.TheConstants.{HYPHENED, SYMBOLS, GRAMMAR_SYMBOLS}
 
 pub hyphened_are : map (λ row. (row.0.now, row.1)) HYPHENED ≡ hyphened
 unfolding hyphened

@@ -254,62 +254,81 @@ pub const UNDERSCORE: u32 = 122;
 /// How many terminals there are.
 pub const TERMINALS: u32 = 123;
 
-// The reserved words without a hyphen, and the `_` that stands alone.
-pub(crate) const WORDS: [(&str, u32); 54] = [
+// The reserved words without a hyphen, and the `_` that stands alone, by their length.
+pub(crate) const WORDS_OF_ONE: [(&str, u32); 2] = [("o", COMPOSE), ("_", UNDERSCORE)];
+
+pub(crate) const WORDS_OF_TWO: [(&str, u32); 5] = [
+    ("if", IF),
+    ("do", DO),
+    ("in", IN),
+    ("is", IS),
+    ("it", IT),
+];
+
+pub(crate) const WORDS_OF_THREE: [(&str, u32); 8] = [
+    ("for", FOR),
+    ("try", TRY),
+    ("set", SET_TYPE),
+    ("map", MAP_TYPE),
+    ("rel", REL_TYPE),
+    ("int", INT_TYPE),
+    ("str", STR_TYPE),
+    ("loc", LOC_TYPE),
+];
+
+pub(crate) const WORDS_OF_FOUR: [(&str, u32); 11] = [
+    ("data", DATA),
+    ("test", TEST),
+    ("else", ELSE),
+    ("case", CASE),
+    ("fail", FAIL),
+    ("true", TRUE),
+    ("when", WHEN),
+    ("list", LIST_TYPE),
+    ("lrel", LREL_TYPE),
+    ("bool", BOOL_TYPE),
+    ("void", VOID_TYPE),
+];
+
+pub(crate) const WORDS_OF_FIVE: [(&str, u32); 10] = [
+    ("visit", VISIT),
+    ("while", WHILE),
+    ("solve", SOLVE),
+    ("catch", CATCH),
+    ("throw", THROW),
+    ("break", BREAK),
+    ("false", FALSE),
+    ("notin", NOTIN),
+    ("tuple", TUPLE_TYPE),
+    ("value", VALUE_TYPE),
+];
+
+pub(crate) const WORDS_OF_SIX: [(&str, u32); 10] = [
     ("module", MODULE),
     ("import", IMPORT),
     ("extend", EXTEND),
     ("public", PUBLIC),
-    ("private", PRIVATE),
-    ("data", DATA),
-    ("default", DEFAULT),
-    ("test", TEST),
     ("syntax", SYNTAX),
-    ("lexical", LEXICAL),
     ("layout", LAYOUT),
-    ("keyword", KEYWORD),
-    ("if", IF),
-    ("else", ELSE),
     ("switch", SWITCH),
-    ("case", CASE),
-    ("visit", VISIT),
-    ("for", FOR),
-    ("while", WHILE),
-    ("do", DO),
-    ("solve", SOLVE),
-    ("try", TRY),
-    ("catch", CATCH),
-    ("finally", FINALLY),
     ("return", RETURN),
     ("insert", INSERT),
     ("append", APPEND),
-    ("throw", THROW),
-    ("fail", FAIL),
-    ("break", BREAK),
-    ("continue", CONTINUE),
-    ("true", TRUE),
-    ("false", FALSE),
-    ("in", IN),
-    ("notin", NOTIN),
-    ("is", IS),
-    ("o", COMPOSE),
-    ("it", IT),
-    ("when", WHEN),
-    ("list", LIST_TYPE),
-    ("set", SET_TYPE),
-    ("map", MAP_TYPE),
-    ("tuple", TUPLE_TYPE),
-    ("rel", REL_TYPE),
-    ("lrel", LREL_TYPE),
-    ("bool", BOOL_TYPE),
-    ("int", INT_TYPE),
-    ("str", STR_TYPE),
-    ("loc", LOC_TYPE),
-    ("void", VOID_TYPE),
-    ("value", VALUE_TYPE),
+];
+
+pub(crate) const WORDS_OF_SEVEN: [(&str, u32); 5] = [
+    ("private", PRIVATE),
+    ("default", DEFAULT),
+    ("lexical", LEXICAL),
+    ("keyword", KEYWORD),
+    ("finally", FINALLY),
+];
+
+pub(crate) const WORDS_OF_EIGHT: [(&str, u32); 1] = [("continue", CONTINUE)];
+
+pub(crate) const WORDS_OF_NINE: [(&str, u32); 2] = [
     ("innermost", INNERMOST),
     ("outermost", OUTERMOST),
-    ("_", UNDERSCORE),
 ];
 
 // The reserved words with a hyphen, the longest first.

@@ -7,7 +7,9 @@ ghost use Rattle.rl_tokens.specs.Word as spec;
 use crate::set::{Set, is_in, peek, run};
 use crate::terminal::{
     CLOSE_BRACE, CLOSE_BRACKET, CLOSE_PARENTHESIS, COMMA, GRAMMAR_SYMBOLS, HYPHENED, LOWER_ID,
-    OPEN_BRACE, OPEN_BRACKET, OPEN_PARENTHESIS, SEMICOLON, SYMBOLS, UPPER_ID, WORDS,
+    OPEN_BRACE, OPEN_BRACKET, OPEN_PARENTHESIS, SEMICOLON, SYMBOLS, UPPER_ID, WORDS_OF_EIGHT,
+    WORDS_OF_FIVE, WORDS_OF_FOUR, WORDS_OF_NINE, WORDS_OF_ONE, WORDS_OF_SEVEN, WORDS_OF_SIX,
+    WORDS_OF_THREE, WORDS_OF_TWO,
 };
 
 // Whether the text begins with the word, which is ASCII.
@@ -53,7 +55,26 @@ fn first_row(mut table: &[(&str, u32)], text: &[char]) -> Option<(usize, u32)>
 fn reserved(word: &[char]) -> Option<u32>
     ensures { result ≡ spec.reserved word.now }
 {
-    lookup(&WORDS, word)
+    lookup(words_of(word.len()), word)
+}
+
+// The reserved words of a length.
+fn words_of(len: usize) -> &'static [(&'static str, u32)]
+    ensures { (word : List ℕ) → length word ≡ len
+        → spec.lookup (map (λ row. (row.0.now, row.1)) result.now) word ≡ spec.reserved word }
+{
+    match len {
+        1 => &WORDS_OF_ONE,
+        2 => &WORDS_OF_TWO,
+        3 => &WORDS_OF_THREE,
+        4 => &WORDS_OF_FOUR,
+        5 => &WORDS_OF_FIVE,
+        6 => &WORDS_OF_SIX,
+        7 => &WORDS_OF_SEVEN,
+        8 => &WORDS_OF_EIGHT,
+        9 => &WORDS_OF_NINE,
+        _ => &[],
+    }
 }
 
 fn lookup(mut table: &[(&str, u32)], word: &[char]) -> Option<u32>
