@@ -1,24 +1,15 @@
 // What named rows gave.
 
-ghost use Rattle.std.specs.Prelude.{◌≡◌, [], IfSome, OnOk};
+ghost use Rattle.std.specs.Prelude.{◌≡◌, ◌⊎◌, suc, ◌<◌, ◌^◌, [], ◌∷◌, ◌++◌, map, length, IfSome, OnOk};
 ghost use Rattle.std.specs.List.{IsAmong};
-ghost use Rattle.std.specs.HashMap.{values};
 ghost use Rattle.rl_phrase.specs.Memory.{IsOneMore};
 
 use crate::arena::Item;
 use std::alloc::{AllocError, Global};
-use std::collections::HashMap;
-use std::hash::Hash;
 use std::marker::Model;
 
-/// For how many entries room is kept where all are forgotten.
-const KEPT: usize = 64;
-
-#[derive(Clone, Copy, PartialEq, Eq, Hash)]
-struct Place {
-    row: u32,
-    at: u32,
-}
+/// For how many entries, and as many tokens, room is kept where all are forgotten.
+const KEPT: usize = 1024;
 
 /// What a row gives: how far it came in vain, and where it succeeds its tree and the next token.
 #[derive(Clone, Copy)]
@@ -35,32 +26,67 @@ pub struct Entry {
     pub given: Given,
 }
 
-fn put<K: Eq + Hash + Drop>(
-    entries: &mut HashMap<K, Entry>,
-    key: K,
+/// An entry behind those that were remembered before it at its token, of which the last is named by its number, counted
+/// from 1. The number is 0 where there is none.
+#[derive(Clone, Copy)]
+struct Link {
     entry: Entry,
-) -> Result<(), AllocError>
-    ensures { OnOk result (IsOneMore entry (values entries.old) (values entries.new)) }
+    before: u32,
+}
+
+// The link of a number.
+fn numbered(links: &[Link], number: u32) -> Option<Link>
+    ensures { IfSome result (IsAmong links.now) }
 {
-    entries.insert(key, entry)?;
+    let index = (number as usize).checked_sub(1)?;
+    links.get(index).copied()
+}
+
+// The entry of a row at a token, of the chain that ends with the number `last`.
+fn find(links: &[Link], last: u32, row: u32, at: u32) -> Option<Entry>
+    ensures { IfSome result (λ entry. (entry.row ≡ row) × (entry.at ≡ at) × IsAmong (map (λ l. l.entry) links.now) entry) }
+{
+    let mut number = last;
+    'chain: while let Some(link) = numbered(links, number) {
+        let entry = link.entry;
+        if entry.row == row && entry.at == at {
+            return Some(entry);
+        }
+        if number <= link.before {
+            return None;
+        }
+        number = link.before;
+    }
+    None
+}
+
+// Adds columns without entries, up to the one at `column`.
+fn widen(columns: &mut Vec<u32>, column: usize) -> Result<(), AllocError>
+    ensures { OnOk result (column < length columns.new.items) }
+{
+    while columns.len() <= column {
+        columns.push(0)?;
+    }
     Ok(())
 }
 
-/// Entries, of which contracts see the list.
+/// Entries, of which contracts see the list. Those at a token stand in a column of their own, from the token `base` on:
+/// `columns` has the number of the last link of each, or 0.
 #[derive(Drop)]
 pub struct Memory {
     alloc: Global,
-    entries: HashMap<Place, Entry>,
+    links: Vec<Link>,
+    base: u32,
+    columns: Vec<u32>,
 }
 
 impl Model for Memory {
-    ghost use Rattle.std.specs.Prelude.{List};
-    ghost use Rattle.std.specs.HashMap.{values};
+    ghost use Rattle.std.specs.Prelude.{List, map};
     ghost use Rattle.rl_phrase.specs.declared.memory.Entry.{Entry};
 
     ghost Value = { List Entry };
 
-    ghost view = { λ m. values m.entries };
+    ghost view = { λ m. map (λ l. l.entry) m.links.items };
 }
 
 impl Memory {
@@ -69,18 +95,22 @@ impl Memory {
     {
         Memory {
             alloc,
-            entries: HashMap::new(alloc),
+            links: Vec::new(alloc),
+            base: 0,
+            columns: Vec::new(alloc),
         }
     }
 
-    /// Forgets all. Little room is kept, so that it takes no longer than what is forgotten had taken.
+    /// Forgets all. Little room is kept.
     pub fn forget(&mut self)
         ensures { self.new ≡ [] }
     {
-        if self.entries.capacity() > KEPT {
-            self.entries = HashMap::new(self.alloc);
+        if self.links.capacity() > KEPT || self.columns.capacity() > KEPT {
+            self.links = Vec::new(self.alloc);
+            self.columns = Vec::new(self.alloc);
         } else {
-            self.entries.clear();
+            self.links.clear();
+            self.columns.clear();
         }
     }
 
@@ -88,22 +118,43 @@ impl Memory {
     pub fn recall(&self, row: u32, at: u32) -> Option<Entry>
         ensures { IfSome result (λ entry. (entry.row ≡ row) × (entry.at ≡ at) × IsAmong self.now entry) }
     {
-        let entry = *self.entries.get(&Place { row, at })?;
-        if entry.row == row && entry.at == at {
-            Some(entry)
-        } else {
-            None
+        let column = at.checked_sub(self.base)?;
+        let last = *self.columns.get(column as usize)?;
+        find(&self.links, last, row, at)
+    }
+
+    // The column of a token. Where an entry at the token has no place beside the others, all is forgotten, and the column is the first.
+    fn column(&mut self, at: u32) -> u32
+        ensures kept { (self.new ≡ self.old) ⊎ (self.new ≡ []) }
+        ensures room { suc (length self.new) < 2 ^ 32 }
+    {
+        match at.checked_sub(self.base) {
+            Some(column) if !self.links.is_empty() && self.links.len() < u32::MAX as usize =>
+                column,
+            _ => {
+                self.forget();
+                self.base = at;
+                0
+            }
         }
+    }
+
+    // Adds an entry to a column.
+    fn add(&mut self, column: usize, entry: Entry) -> Result<(), AllocError>
+        requires { suc (length self.old) < 2 ^ 32 }
+        ensures { OnOk result (self.new ≡ self.old ++ entry ∷ []) }
+    {
+        widen(&mut self.columns, column)?;
+        let before = self.columns[column];
+        self.links.push(Link { entry, before })?;
+        self.columns[column] = self.links.len() as u32;
+        Ok(())
     }
 
     pub fn remember(&mut self, entry: Entry) -> Result<(), AllocError>
         ensures { OnOk result (IsOneMore entry self.old self.new) }
     {
-        let place = Place {
-            row: entry.row,
-            at: entry.at,
-        };
-        put(&mut self.entries, place, entry)?;
-        Ok(())
+        let column = self.column(entry.at);
+        self.add(column as usize, entry)
     }
 }
