@@ -1,6 +1,6 @@
 // What named rows gave.
 
-ghost use Rattle.std.specs.Prelude.{◌≡◌, ◌⊎◌, suc, ◌<◌, ◌^◌, [], ◌∷◌, ◌++◌, map, length, IfSome, OnOk};
+ghost use Rattle.std.specs.Prelude.{◌≡◌, ◌⊎◌, suc, ◌+◌, ◌<◌, ◌^◌, [], ◌∷◌, ◌++◌, map, length, IfSome, IfOk, OnOk};
 ghost use Rattle.std.specs.List.{IsAmong};
 ghost use Rattle.rl_phrase.specs.Memory.{IsOneMore};
 
@@ -26,8 +26,7 @@ pub struct Entry {
     pub given: Given,
 }
 
-/// An entry behind those that were remembered before it at its token, of which the last is named by its number, counted
-/// from 1. The number is 0 where there is none.
+/// An entry, and the number of the link that was added before it at the same token. Numbers count from 1, and 0 is none.
 #[derive(Clone, Copy)]
 struct Link {
     entry: Entry,
@@ -70,8 +69,16 @@ fn widen(columns: &mut Vec<u32>, column: usize) -> Result<(), AllocError>
     Ok(())
 }
 
-/// Entries, of which contracts see the list. Those at a token stand in a column of their own, from the token `base` on:
-/// `columns` has the number of the last link of each, or 0.
+// The columns, behind new ones without entries.
+fn put_before(alloc: Global, columns: &[u32], more: usize) -> Result<Vec<u32>, AllocError>
+    ensures { IfOk result (λ all. length all.items ≡ more + length columns.now) }
+{
+    let mut all = vec![in alloc; 0; more]?;
+    all.extend_from_slice(columns)?;
+    Ok(all)
+}
+
+/// Entries, of which contracts see the list. Each token from `base` on has a column, the number of its last link.
 #[derive(Drop)]
 pub struct Memory {
     alloc: Global,
@@ -123,19 +130,32 @@ impl Memory {
         find(&self.links, last, row, at)
     }
 
-    // The column of a token. Where an entry at the token has no place beside the others, all is forgotten, and the column is the first.
-    fn column(&mut self, at: u32) -> u32
-        ensures kept { (self.new ≡ self.old) ⊎ (self.new ≡ []) }
-        ensures room { suc (length self.new) < 2 ^ 32 }
+    // Adds columns down to a token before the first, and as many again as there were, so that few entries do it. Gives the
+    // token's column.
+    fn column_before(&mut self, at: u32) -> Result<u32, AllocError>
+        ensures { OnOk result (self.new ≡ self.old) }
     {
+        let spare = self.columns.len().min(at as usize) as u32;
+        let base = at - spare;
+        let more = self.base.saturating_sub(base);
+        self.columns = put_before(self.alloc, &self.columns, more as usize)?;
+        self.base = base;
+        Ok(spare)
+    }
+
+    // The column of a token. Where an entry more has no number, all is forgotten, and the column is the first.
+    fn column(&mut self, at: u32) -> Result<u32, AllocError>
+        ensures kept { OnOk result ((self.new ≡ self.old) ⊎ (self.new ≡ [])) }
+        ensures room { OnOk result (suc (length self.new) < 2 ^ 32) }
+    {
+        if self.links.is_empty() || self.links.len() >= u32::MAX as usize {
+            self.forget();
+            self.base = at;
+            return Ok(0);
+        }
         match at.checked_sub(self.base) {
-            Some(column) if !self.links.is_empty() && self.links.len() < u32::MAX as usize =>
-                column,
-            _ => {
-                self.forget();
-                self.base = at;
-                0
-            }
+            Some(column) => Ok(column),
+            None => self.column_before(at),
         }
     }
 
@@ -151,10 +171,11 @@ impl Memory {
         Ok(())
     }
 
+    /// Remembers what a row gives at a token.
     pub fn remember(&mut self, entry: Entry) -> Result<(), AllocError>
         ensures { OnOk result (IsOneMore entry self.old self.new) }
     {
-        let column = self.column(entry.at);
+        let column = self.column(entry.at)?;
         self.add(column as usize, entry)
     }
 }

@@ -19,6 +19,6 @@ pub returns : goal.returns
 returns c =
     let entry = c.args.entry in
     let old = c.args.self.now in
-    let kept = c.column-column.new.self in
-    let more : IsOneMore entry old (kept ++ entry ∷ []) = added entry old kept c.column-column.ensures.kept in
+    let kept = c.column.new.self in
+    let more : IsOneMore entry old (kept ++ entry ∷ []) = added entry old kept c.in_ok-column.ensures.kept in
     on_ok_weaker c.add.result (λ (e : c.add.new.self ≡ kept ++ entry ∷ []). subst (λ v. IsOneMore entry old v) (sym e) more) c.add.ensures
