@@ -16,3 +16,4 @@ pub mod Determined
 pub mod Certified
 pub mod Examples
 pub mod PassedOver
+pub mod OverRows

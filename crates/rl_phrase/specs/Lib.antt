@@ -17,3 +17,4 @@ pub mod View
 pub mod Depth
 pub mod Build
 pub mod Answer
+pub mod Lookahead

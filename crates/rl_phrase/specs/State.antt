@@ -92,6 +92,10 @@ IsRight tokens rules cells entry = GivenWithin (length cells) entry.given × Phr
 abbrev pub Extends : (old new : List Cell) → Type 0
 Extends old new = (length old ≤ length new) × ((list : ℕ) → list ≤ length old → parts_in new list ≡ parts_in old list)
 
+-- no turn or more
+abbrev pub Comes : Tokens → List Rule → State → State → Type 0
+Comes tokens rules c d = (n : ℕ) × Path tokens rules n 0 c d
+
 -- one turn or more
 abbrev pub Leads : Tokens → List Rule → State → State → Type 0
 Leads tokens rules c d = (n : ℕ) × Path tokens rules (suc n) 0 c d

@@ -5,6 +5,7 @@ mod arena;
 mod build;
 mod firsts;
 pub mod laws;
+mod lookahead;
 mod machine;
 mod memory;
 pub mod phrase;

@@ -13,11 +13,12 @@ ghost use Rattle.rl_phrase.specs.Stands.{Stands, IsPrepared, HasTurned, Remember
 
 use crate::arena::{Arena, Cell, Item};
 use crate::firsts::{First, cannot_begin};
+use crate::lookahead::{is_optional, pass_over};
 use crate::memory::{Entry, Given, Memory};
 use crate::stack::Stack;
 use crate::table::{Form, Rule};
 use crate::terminals::is_terminal;
-use crate::turn::{Built, Frame, Mark, Rest, Task, Turn, begin, fail, push, recalled, to};
+use crate::turn::{Built, Frame, Mark, Rest, Task, Turn, begin, fail, push, recalled, straight_on, to};
 use rl_tokens::Tokens;
 use std::alloc::{AllocError, Global};
 
@@ -209,8 +210,8 @@ impl Machine {
         }
     }
 
-    // What a call comes to: at once to a failure where the row cannot begin with the token, or to what is remembered of it, or
-    // else to its beginning.
+    // What a call comes to: at once to a failure where the row cannot begin with the token, or to nothing where it is optional
+    // and its first part cannot, or to what is remembered of it, or else to its beginning.
     fn call(
         &self,
         tokens: &Tokens,
@@ -234,6 +235,13 @@ impl Machine {
         };
         if cannot_begin(firsts, tokens, row, at) {
             return Ok(to(Task::Fail, Built::Same(0), self.far.max(at)));
+        }
+        if is_optional(*rule) && cannot_begin(firsts, tokens, rule.first as u64, at) {
+            return Ok(to(
+                Task::Succeed(at),
+                Built::Same(self.parts),
+                self.far.max(at),
+            ));
         }
         if let Form::Named = rule.form
             && let Some(entry) = self.memory.recall(number, at)
@@ -333,7 +341,8 @@ impl Machine {
                     return Ok(None);
                 };
                 remember_failure(&mut self.memory, frame, self.far)?;
-                Ok(Some(fail(frame, self.far)))
+                let (frame, far) = pass_over(tokens, firsts, frame, self.far);
+                Ok(Some(fail(frame, far)))
             }
         }
     }
@@ -372,7 +381,7 @@ impl Machine {
         match self.next(tokens, rules, firsts)? {
             None => Ok(false),
             Some(turn) => {
-                self.take(turn)?;
+                self.take(straight_on(turn))?;
                 Ok(true)
             }
         }

@@ -2,9 +2,11 @@
 
 ghost use Rattle.std.specs.Prelude.{◌≡◌, ℕ, ◌≤◌, List};
 ghost use Rattle.rl_phrase.specs.declared.arena.Cell.{Cell};
+ghost use Rattle.rl_phrase.specs.declared.table.Rule.{Rule};
+ghost use Rattle.rl_phrase.specs.Terminals.{Tokens};
 ghost use Rattle.rl_phrase.specs.Machine.{Pending, failed, done};
 ghost use Rattle.rl_phrase.specs.Arena.{parts_in};
-ghost use Rattle.rl_phrase.specs.State.{frame_in, outcome_in, after_turn, FrameWithin, TurnWithin, GivenWithin};
+ghost use Rattle.rl_phrase.specs.State.{frame_in, outcome_in, after_turn, Comes, FrameWithin, TurnWithin, GivenWithin};
 
 use crate::arena::Item;
 use crate::memory::Given;
@@ -97,6 +99,24 @@ pub fn begin(rest: Rest, at: u32, under: Frame, built: Built, far: u32) -> Turn
         top: Some(Frame::Parts(rest)),
         built,
         far,
+    }
+}
+
+/// A turn that goes on to the first of its rows at once, if it has one.
+pub fn straight_on(turn: Turn) -> Turn
+    ensures means { (tokens : Tokens) (rules : List Rule) (cells : List Cell) (frames : List Pending) → Comes tokens rules (after_turn cells turn frames) (after_turn cells result frames) }
+    ensures within { (n : ℕ) → TurnWithin n turn → TurnWithin n result }
+{
+    match (turn.task, turn.top) {
+        (Task::Succeed(at), Some(Frame::Parts(Rest { next, end }))) if next < end => Turn {
+            task: Task::Call { row: next, at },
+            top: Some(Frame::Parts(Rest {
+                next: next + 1,
+                end,
+            })),
+            ..turn
+        },
+        _ => turn,
     }
 }
 

@@ -2,12 +2,14 @@ use Rattle.std.proofs.Common.{◌≡◌, ◌<◌, length, Some, ap, ◌∙◌, s
 use Rattle.std.specs.Prelude.{slice_get}
 use Rattle.std.proofs.lemmas.Bool.{ltb-true}
 use Rattle.std.proofs.lemmas.Option.{slice_get_read}
-use Rattle.rl_phrase.specs.Phr.{Fails, Phr}
-use Rattle.rl_phrase.specs.Machine.{Calling, Failing, called}
+use Rattle.rl_phrase.specs.Tree.{none}
+use Rattle.rl_phrase.specs.Phr.{Fails, Gives, Phr}
+use Rattle.rl_phrase.specs.Machine.{Calling, Going, Failing, called}
 use Rattle.rl_phrase.specs.Arena.{parts_in}
 use Rattle.rl_phrase.specs.State.{after_turn, outcome_in, Leads}
 use Rattle.rl_phrase.proofs.Turned.{one_turn, remembered}
 use Rattle.rl_phrase.proofs.PassedOver.{passed_over}
+use Rattle.rl_phrase.proofs.OverRows.{takes_nothing}
 use Rattle.rl_phrase.proofs.Ways.{jumps}
 use Rattle.rl_phrase.proofs.machine.Machine.call.Goals as goal
 
@@ -60,3 +62,21 @@ returns-then-cannot_begin-clause-means c frames =
     subst (λ t. Leads tokens rules (Calling row at frames parts far) (after_turn cells t frames)) (sym c.to-then-cannot_begin.ensures)
     (subst (λ n. Leads tokens rules (Calling row at frames parts far) (Failing frames n)) (sym c.max.ensures)
     (jumps tokens rules row at (Fails at) here frames parts far))
+
+pub returns-then-cannot_begin-2-clause-means : goal.returns-then-cannot_begin-2-clause-means
+returns-then-cannot_begin-2-clause-means c frames =
+    let tokens = c.args.tokens.now in
+    let rules = c.args.rules.now in
+    let cells = c.args.self.now.arena in
+    let row = c.args.row in
+    let at = c.args.at in
+    let parts = parts_in cells c.args.self.now.parts in
+    let far = c.args.self.now.far in
+    let lookup = c.in-Some.ensures.lookup in
+    let lt : row < length rules = ltb-true row (length rules) (sym lookup.0) in
+    let rule : slice_get rules row ≡ Some c.in-Some.rule.now = slice_get_read rules (length rules) row c.in-Some.rule.now refl lt lookup.1 in
+    let here : Phr tokens rules row at (Gives none at at) =
+    takes_nothing tokens rules c.args.firsts.now c.requires.no_left_recursion c.requires.firsts row at c.in-Some.rule.now rule (c.is_optional.ensures c.if-is_optional.true) (c.cannot_begin-then-is_optional.ensures c.if-cannot_begin-2.true) in
+    subst (λ t. Leads tokens rules (Calling row at frames parts far) (after_turn cells t frames)) (sym c.to-then-cannot_begin-2.ensures)
+    (subst (λ n. Leads tokens rules (Calling row at frames parts far) (Going at frames parts n)) (sym c.max-then-cannot_begin-2.ensures)
+    (jumps tokens rules row at (Gives none at at) here frames parts far))

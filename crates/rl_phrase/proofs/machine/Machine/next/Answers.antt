@@ -3,6 +3,7 @@ use Rattle.rl_phrase.specs.Machine.{Calling, Going, Failing}
 use Rattle.rl_phrase.specs.Arena.{parts_in}
 use Rattle.rl_phrase.specs.State.{frame_in, frames_in, state_in, state_of, after_turn, FramesWithin, Leads}
 use Rattle.rl_phrase.specs.Awaits.{IsOnTheWay}
+use Rattle.rl_phrase.proofs.OverRows.{past_frame, then_leads}
 use Rattle.rl_phrase.proofs.Turned.{one_turn, forgotten, memory_success, memory_failure}
 use Rattle.rl_phrase.proofs.machine.Machine.next.Goals as goal
 
@@ -51,12 +52,17 @@ returns-in_ok-remember_failure-in-Fail c =
     let within = subst (λ fs. FramesWithin (length m.arena) fs) c.in-Some-pop.ensures c.requires.stands.frames in
     let here = Failing (frame_in m.arena frame ∷ frames) m.far in
     let from : state_of m ≡ here = ap (λ t. state_in t (frames_in m.arena m.frames) (parts_in m.arena m.parts) m.far) c.in-Fail.is ∙ ap (λ fs. Failing (frames_in m.arena fs) m.far) c.in-Some-pop.ensures in
+    let left = c.pass_over-frame.result.0 in
+    let far = c.pass_over-frame.result.1 in
+    let after = after_turn m.arena c.fail.result frames in
+    let passed = past_frame tokens rules c.args.firsts.now c.requires.no_left_recursion c.requires.firsts m.arena frame m.far left far c.pass_over-frame.ensures.passes frames in
+    let fails : Leads tokens rules (Failing (frame_in m.arena left ∷ frames) far) after =
+    one_turn tokens rules (Failing (frame_in m.arena left ∷ frames) far) after (omega arith) (ap Some (sym (c.fail.ensures.means m.arena frames))) in
     record {
       frames = within.1;
-      within = c.fail.ensures.within (length m.arena) within.0;
+      within = c.fail.ensures.within (length m.arena) (c.pass_over-frame.ensures.within (length m.arena) within.0);
       memory =
           memory_failure tokens rules m.arena m.memory c.remember_failure.new.memory frame m.far frames c.requires.stands.memory
           (subst (λ s. IsOnTheWay tokens rules s) from c.requires.stands.way) (c.in_ok-remember_failure-in-Fail).ensures;
-      leads = subst (λ s. Leads tokens rules s (after_turn m.arena c.fail.result frames)) (sym from)
-          (one_turn tokens rules here (after_turn m.arena c.fail.result frames) (omega arith) (ap Some (sym (c.fail.ensures.means m.arena frames))));
+      leads = subst (λ s. Leads tokens rules s after) (sym from) (then_leads tokens rules here (Failing (frame_in m.arena left ∷ frames) far) after passed fails);
     }
