@@ -1,5 +1,5 @@
 -- Where a machine comes to that passes over rows.
-use Rattle.std.proofs.Common.{◌≡◌, ℕ, zero, suc, ◌+◌, ◌-◌, ◌<◌, ◌≤◌, ◌⊎◌, max, nat_lt, Bool, true, false, cond, List, [], ◌∷◌, length, Option, Some, None, refl, sym, ap, ◌∙◌, subst, ⊎_elim, arith}
+use Rattle.std.proofs.Common.{◌≡◌, ℕ, zero, suc, ◌+◌, ◌-◌, ◌<◌, ◌≤◌, ◌⊎◌, max, nat_lt, Bool, true, false, cond, List, ◌∷◌, Some, refl, sym, ap, ◌∙◌, subst, ⊎_elim, arith}
 use Rattle.std.specs.Prelude.{slice_get}
 use Rattle.std.proofs.lemmas.Bool.{le-ltb, lt-ltb}
 use Rattle.rl_phrase.specs.Terminals.{Tokens}
@@ -11,10 +11,10 @@ use Rattle.rl_phrase.specs.declared.firsts.First.{First}
 use Rattle.rl_phrase.specs.declared.turn.Frame.{Frame}
 use Rattle.rl_phrase.specs.declared.turn.Frame.TheVariants as frame
 use Rattle.rl_phrase.specs.Tree.{Tree, none}
-use Rattle.rl_phrase.specs.Phr.{Outcome, Fails, Gives, Meaning, Phr, and_then, in_turn, again, optional, of_form, of_rule, phr}
+use Rattle.rl_phrase.specs.Phr.{Fails, Gives, Meaning, Phr, and_then, in_turn, again, optional, of_form, of_rule, phr}
 use Rattle.rl_phrase.specs.LeftRecursion.{HasNoLeftRecursion}
 use Rattle.rl_phrase.specs.Firsts.{AreFirsts, CannotBegin}
-use Rattle.rl_phrase.specs.Lookahead.{ArePassed, IsOptional, PassesOver, tried}
+use Rattle.rl_phrase.specs.Lookahead.{IsOptional, PassesOver, tried}
 use Rattle.rl_phrase.specs.Machine.{Pending, Choices, State, Calling, Failing, turn, Path}
 use Rattle.rl_phrase.specs.Arena.{parts_in}
 use Rattle.rl_phrase.specs.State.{frame_in, Comes, Leads}
@@ -55,8 +55,7 @@ module _ (tokens : Tokens) (rules : List Rule) where
         let still : tried at (next + 1) to (max far at) ≡ max far at = twice (nat_lt (next + 1) to) in
         let end_state : Failing (Choices to end at ps ∷ fs) (tried at (next + 1) to (max far at)) ≡ Failing (Choices to end at ps ∷ fs) (tried at next to far) =
         ap (λ f. Failing (Choices to end at ps ∷ fs) f) (still ∙ sym all_tried) in
-        let there = subst (λ s. Comes tokens rules (Failing left (max far at)) s) end_state rest in
-        (
+        let there = subst (λ s. Comes tokens rules (Failing left (max far at)) s) end_state rest in (
           suc (suc fails.0 + there.0),
           (omega arith, (Calling next at left ps far, (calls, path_on tokens rules (suc fails.0) there.0 0 _ _ _ fails.1 there.1))),
         )

@@ -46,6 +46,7 @@ RemembersFailure (Negated mark) far old new = new ≡ old
 
 -- the turn is there to be taken, or the machine is at its end
 pub record IsReady (tokens : Tokens) (rules : List Rule) (old new : Machine) (t : Turn) : Type 0 where
+  pub list : new.parts ≤ length new.arena
   pub frames : FramesWithin (length new.arena) new.frames
   pub within : TurnWithin (length new.arena) t
   pub memory : All (IsRight tokens rules new.arena) new.memory

@@ -1,13 +1,13 @@
 // The machine: one loop over a stack of frames.
 
-ghost use Rattle.std.specs.Prelude.{◌≡◌, ◌⊎◌, ℕ, ◌≤◌, List, [], length, slice_get, OnOk, IfOk};
+ghost use Rattle.std.specs.Prelude.{◌≡◌, ◌⊎◌, ℕ, ◌≤◌, List, [], ◌∷◌, true, length, slice_get, OnOk, IfOk};
 ghost use Rattle.std.specs.List.{All};
 ghost use Rattle.rl_phrase.specs.declared.arena.Cell.{Cell};
 ghost use Rattle.rl_phrase.specs.LeftRecursion.{HasNoLeftRecursion};
 ghost use Rattle.rl_phrase.specs.Firsts.{AreFirsts};
 ghost use Rattle.rl_phrase.specs.Phr.{node_of};
 ghost use Rattle.rl_phrase.specs.Machine.{Pending, Calling, turned, called_terminal, called_form, succeeded};
-ghost use Rattle.rl_phrase.specs.Arena.{parts_in, tree_in, IsWithin, node_alone};
+ghost use Rattle.rl_phrase.specs.Arena.{parts_in, tree_in, IsOlder, IsWithin, node_alone};
 ghost use Rattle.rl_phrase.specs.State.{frame_in, frames_in, state_of, after_turn, built_in, with_some, FrameWithin, FramesWithin, BuiltWithin, TurnWithin, IsRight, Extends, Leads};
 ghost use Rattle.rl_phrase.specs.Stands.{Stands, IsPrepared, HasTurned, RemembersSuccess, RemembersFailure};
 
@@ -18,7 +18,9 @@ use crate::memory::{Entry, Given, Memory};
 use crate::stack::Stack;
 use crate::table::{Form, Rule};
 use crate::terminals::is_terminal;
-use crate::turn::{Built, Frame, Mark, Rest, Task, Turn, begin, fail, push, recalled, straight_on, to};
+use crate::turn::{
+    Built, Frame, Mark, Rest, Task, Turn, begin, fail, push, recalled, straight_on, to,
+};
 use rl_tokens::Tokens;
 use std::alloc::{AllocError, Global};
 
@@ -105,16 +107,62 @@ fn remember_failure(memory: &mut Memory, frame: Frame, far: u32) -> Result<(), A
     Ok(())
 }
 
+fn is_same_item(a: Item, b: Item) -> bool
+    ensures { result ≡ true → a ≡ b }
+{
+    match (a, b) {
+        (Item::Token(a), Item::Token(b)) => a == b,
+        (
+            Item::Node {
+                rule,
+                from,
+                to,
+                parts,
+            },
+            Item::Node {
+                rule: other_rule,
+                from: other_from,
+                to: other_to,
+                parts: other_parts,
+            },
+        ) => rule == other_rule && from == other_from && to == other_to && parts == other_parts,
+        _ => false,
+    }
+}
+
+fn is_same(a: Cell, b: Cell) -> bool
+    ensures { result ≡ true → a ≡ b }
+{
+    a.before == b.before && is_same_item(a.item, b.item)
+}
+
+// The list of the cell: the one at hand where it ends with the same cell, as where rows that are one node call each other.
+fn list_of(arena: &mut Arena, cell: Cell, parts: u32) -> Result<u32, AllocError>
+    requires cell { IsOlder cell (length arena.old) }
+    requires parts { parts ≤ length arena.old }
+    ensures means { IfOk result (λ list. parts_in arena.new list ≡ tree_in arena.old cell.item ∷ parts_in arena.old cell.before) }
+    ensures within { IfOk result (λ list. list ≤ length arena.new) }
+    ensures extends { OnOk result (Extends arena.old arena.new) }
+{
+    if let Some(last) = arena.last(parts)
+        && is_same(last, cell)
+    {
+        return Ok(parts);
+    }
+    arena.add(cell)
+}
+
 // The list, which is made where it is not there yet.
-fn build(arena: &mut Arena, built: Built) -> Result<u32, AllocError>
-    requires { BuiltWithin (length arena.old) built }
+fn build(arena: &mut Arena, built: Built, parts: u32) -> Result<u32, AllocError>
+    requires built { BuiltWithin (length arena.old) built }
+    requires parts { parts ≤ length arena.old }
     ensures means { IfOk result (λ list. parts_in arena.new list ≡ built_in arena.old built) }
     ensures within { IfOk result (λ list. list ≤ length arena.new) }
     ensures extends { OnOk result (Extends arena.old arena.new) }
 {
     match built {
         Built::Same(list) => Ok(list),
-        Built::More(before, item) => arena.add(Cell { before, item }),
+        Built::More(before, item) => list_of(arena, Cell { before, item }, parts),
     }
 }
 
@@ -237,11 +285,7 @@ impl Machine {
             return Ok(to(Task::Fail, Built::Same(0), self.far.max(at)));
         }
         if is_optional(*rule) && cannot_begin(firsts, tokens, rule.first as u64, at) {
-            return Ok(to(
-                Task::Succeed(at),
-                Built::Same(self.parts),
-                self.far.max(at),
-            ));
+            return Ok(to(Task::Succeed(at), Built::Same(self.parts), self.far.max(at)));
         }
         if let Form::Named = rule.form
             && let Some(entry) = self.memory.recall(number, at)
@@ -349,6 +393,7 @@ impl Machine {
 
     // Takes the turn.
     fn take(&mut self, turn: Turn) -> Result<(), AllocError>
+        requires list { self.old.parts ≤ length self.old.arena }
         requires frames { FramesWithin (length self.old.arena) self.old.frames }
         requires turn { TurnWithin (length self.old.arena) turn }
         ensures state { OnOk result (state_of self.new ≡ after_turn self.old.arena turn (frames_in self.old.arena self.old.frames)) }
@@ -357,7 +402,7 @@ impl Machine {
         ensures arena { OnOk result (Extends self.old.arena self.new.arena) }
         ensures memory { OnOk result (self.new.memory ≡ self.old.memory) }
     {
-        self.parts = build(&mut self.arena, turn.built)?;
+        self.parts = build(&mut self.arena, turn.built, self.parts)?;
         push_some(&mut self.frames, turn.under)?;
         push_some(&mut self.frames, turn.top)?;
         self.task = turn.task;

@@ -14,6 +14,7 @@ returns-in_ok-turn-in-Call c =
     let parts = parts_in m.arena m.parts in
     let from : state_of m ≡ Calling c.in-Call.row c.in-Call.at frames parts m.far = ap (λ t. state_in t frames parts m.far) c.in-Call.is in
     record {
+      list = c.requires.stands.list;
       frames = c.requires.stands.frames;
       within = c.in_ok-turn-in-Call.ensures.within;
       memory = c.requires.stands.memory;
@@ -33,6 +34,7 @@ returns-in_ok-remember_success-in-Succeed c =
     let here = Going at (frame_in m.arena frame ∷ frames) parts m.far in
     let from : state_of m ≡ here = ap (λ t. state_in t (frames_in m.arena m.frames) parts m.far) c.in-Succeed.is ∙ ap (λ fs. Going at (frames_in m.arena fs) parts m.far) c.in-Some.ensures in
     record {
+      list = c.requires.stands.list;
       frames = within.1;
       within = c.succeed.ensures.within;
       memory =
@@ -59,6 +61,7 @@ returns-in_ok-remember_failure-in-Fail c =
     let fails : Leads tokens rules (Failing (frame_in m.arena left ∷ frames) far) after =
     one_turn tokens rules (Failing (frame_in m.arena left ∷ frames) far) after (omega arith) (ap Some (sym (c.fail.ensures.means m.arena frames))) in
     record {
+      list = c.requires.stands.list;
       frames = within.1;
       within = c.fail.ensures.within (length m.arena) (c.pass_over-frame.ensures.within (length m.arena) within.0);
       memory =
