@@ -1,5 +1,5 @@
 #!/usr/bin/env python3
-"""Writes the calls that `library_cases` reads, and what each of them gives or throws.
+"""Writes the calls that `cases_library` reads, and what each of them gives or throws.
 
 The answers are worked out here by a model of the library of its own. Run it at the top of the repository:
 
@@ -614,7 +614,7 @@ def expected(call):
 
 def main():
     sys.setrecursionlimit(20000)
-    folder = Path("crates/library_cases")
+    folder = Path("crates/cases_library")
     every = list(calls())
     lines = ["\t".join([name] + [word for argument in arguments for word in words(argument)]) for name, *arguments in every]
     (folder / "stdin").write_text("".join(line + "\n" for line in lines))

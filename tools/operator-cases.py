@@ -1,7 +1,7 @@
 #!/usr/bin/env python3
-"""Works out, from the tables of the language and from none of the code, what operator_cases prints.
+"""Works out, from the tables of the language and from none of the code, what cases_operators prints.
 
-Run it at the top: tools/operator-cases.py < crates/operator_cases/stdin > crates/operator_cases/stdout
+Run it at the top: tools/operator-cases.py < crates/cases_operators/stdin > crates/cases_operators/stdout
 """
 import sys
 

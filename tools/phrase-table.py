@@ -1,19 +1,19 @@
 #!/usr/bin/env python3
-"""Makes crates/rl_syntax/src/rules.rt of the rules in crates/rl_syntax/src/phrases.rt.
+"""Makes the table of rows of the grammar in crates/rl_phrase_table/specs/Grammar.antt.
 
-Run it at the top of the repository after a change of the rules, and then `rt fmt` in crates/rl_syntax. A test of that crate
-prints the table that came of it and compares the print with the rules.
-
-It also makes a certificate that no row comes back to itself without a token, which the prover tests.
+Run it at the top of the repository after a change of the grammar, and then `rt fmt` in crates/rl_phrase_table. It writes the rows
+(src/rules.rt), and a certificate that no row comes back to itself without a token, which the prover tests. It also numbers the
+terminals of crates/rl_tokens in the order in which the rules first write them. The laws of rl_phrase_table say that the rows and
+the numbers are those of the grammar.
 """
 
 import re
 
-PHRASES = "crates/rl_syntax/src/phrases.rt"
+GRAMMAR = "crates/rl_phrase_table/specs/Grammar.antt"
 TERMINALS = "crates/rl_tokens/src/terminal.rt"
-RULES = "crates/rl_syntax/src/rules.rt"
-NAMES = "crates/rl_syntax/src/rule_names.rt"
-CERTIFICATE = "crates/rl_syntax/proofs/Certificate.antt"
+TERMINAL_NAMES = "crates/rl_tokens/specs/Terminal.antt"
+RULES = "crates/rl_phrase_table/src/rules.rt"
+CERTIFICATE = "crates/rl_phrase_table/proofs/Certificate.antt"
 
 CLASSES = {
     "End": "END", "Id": "ID", "UId": "UPPER_ID", "LId": "LOWER_ID", "Int": "INTEGER", "Str": "STRING",
@@ -45,6 +45,9 @@ macro_rules! rows {
 
 """
 
+WORD = r'word "(?:[^"\\]|\\.)+"'
+NAME = r"«?[A-Za-z]+»?"
+
 
 def constant(rule):
     return FULL_NAMES.get(rule, rule.upper())
@@ -54,11 +57,11 @@ class Reader:
     """Reads expressions; an expression is a tuple of its form and its parts, or of its name."""
 
     def __init__(self, text):
-        self.tokens = re.findall(r'"[^"]+"|[A-Za-z]+|[=/()*+?!]', text)
+        self.tokens = re.findall(f"{WORD}|{NAME}|[⟶·∕()*+？!∷]|\\[\\]", text)
         self.at = 0
 
-    def peek(self, ahead=0):
-        return self.tokens[self.at + ahead] if self.at + ahead < len(self.tokens) else ""
+    def peek(self):
+        return self.tokens[self.at] if self.at < len(self.tokens) else ""
 
     def take(self):
         self.at += 1
@@ -66,22 +69,24 @@ class Reader:
 
     def rules(self):
         rules = {}
-        while self.peek():
-            name = self.take()
-            assert self.take() == "=" and name not in rules
+        while self.peek() != "[]":
+            name = self.take().strip("«»")
+            assert self.take() == "⟶" and name not in rules, name
             rules[name] = self.choice()
+            assert self.take() == "∷", name
         return rules
 
     def choice(self):
         parts = [self.sequence()]
-        while self.peek() == "/":
+        while self.peek() == "∕":
             self.take()
             parts.append(self.sequence())
         return parts[0] if len(parts) == 1 else ("Choice", parts)
 
     def sequence(self):
-        parts = []
-        while self.peek() not in ("", "/", ")") and self.peek(1) != "=":
+        parts = [self.item()]
+        while self.peek() == "·":
+            self.take()
             parts.append(self.item())
         return parts[0] if len(parts) == 1 else ("Seq", parts)
 
@@ -90,7 +95,7 @@ class Reader:
             self.take()
             return ("Not", turns(self.item()))
         part = self.primary()
-        form = {"*": "Star", "+": "Plus", "?": "Opt"}.get(self.peek())
+        form = {"*": "Star", "+": "Plus", "？": "Opt"}.get(self.peek())
         if form:
             self.take()
             return (form, turns(part))
@@ -102,7 +107,20 @@ class Reader:
             part = self.choice()
             assert self.take() == ")"
             return part
-        return ("Word", token[1:-1]) if token[0] == '"' else ("Name", token)
+        if token.startswith('word "'):
+            return ("Word", re.sub(r"\\(.)", r"\1", token[6:-1]))
+        assert re.fullmatch(NAME, token), token
+        return ("Name", token.strip("«»"))
+
+
+def read_grammar(text):
+    """The rules of the lists that `grammar` is made of."""
+    text = re.sub(r"^--.*$", "", text, flags=re.M)
+    lists = dict(re.findall(r"^(\w+) =\n(.*?\[\])$", text, flags=re.M | re.S))
+    rules = {}
+    for name in re.search(r"^grammar = (.*)$", text, flags=re.M).group(1).split(" ++ "):
+        rules.update(Reader(lists[name]).rules())
+    return rules
 
 
 def turns(part):
@@ -119,6 +137,33 @@ def first_words(part, found):
             first_words(inner, found)
 
 
+def number_terminals(found):
+    """Numbers the terminals in this order, and gives the name of each."""
+    text = open(TERMINALS).read()
+    pattern = r"/// (.*)\npub const (\w+): u32 = \d+;\n"
+    docs, terminals = {}, {word: name for word, name in CLASSES.items()}
+    for doc, name in re.findall(pattern, text):
+        docs[name] = doc
+        if doc[0] == "`":
+            terminals[doc[1:-1]] = name
+    last = docs.pop("TERMINALS")
+    for word in found:
+        assert word in terminals, f"`{word}` has no constant in {TERMINALS}"
+    names = [terminals[word] for word in found]
+    assert set(names) == set(docs), f"no rule writes {set(docs) - set(names)}"
+    lines = [f"/// {docs[name]}\npub const {name}: u32 = {number};\n" for number, name in enumerate(names)]
+    lines.append(f"/// {last}\npub const TERMINALS: u32 = {len(names)};\n")
+    with open(TERMINALS, "w") as out:
+        out.write(re.sub(f"(?:{pattern})+", lambda _: "".join(lines), text, count=1))
+
+    text = open(TERMINAL_NAMES).read()
+    codes = ['codes "' + word.replace("\\", "\\\\") + '"' for word in found]
+    lines = [" ∷ ".join(codes[first:first + 6]) for first in range(0, len(codes), 6)]
+    with open(TERMINAL_NAMES, "w") as out:
+        out.write(re.sub(r"^terminals = .*?\[\]$", lambda _: "terminals = " + "\n    ∷ ".join(lines) + " ∷ []", text, flags=re.M | re.S))
+    return terminals
+
+
 def can_be_empty(part, empty):
     form, inner = part
     if form in ("Star", "Opt", "Not"):
@@ -129,20 +174,11 @@ def can_be_empty(part, empty):
 
 
 def main():
-    text = open(PHRASES).read()
-    rules = Reader(text[text.index('r##"') + 4:text.index('"##')]).rules()
-    terminals = dict()
-    names = []
-    for words, name, number in re.findall(r"/// (.*)\npub const (\w+): u32 = (\d+);", open(TERMINALS).read()):
-        if name != "TERMINALS":
-            assert int(number) == len(names)
-            names.append(name)
-            terminals[words[1:-1] if words[0] == "`" else name] = name
-    terminals.update({word: name for word, name in CLASSES.items()})
+    rules = read_grammar(open(GRAMMAR).read())
     found = []
     for part in rules.values():
         first_words(part, found)
-    assert [terminals[word] for word in found] == names, "the terminals are numbered in the order of the rules"
+    terminals = number_terminals(found)
 
     empty = set()
     while True:
@@ -181,8 +217,8 @@ def main():
         blocks.append((name, row, len(rows)))
 
     with open(RULES, "w") as out:
-        out.write("//! The grammar of modules as a table of rows. `tools/phrase-table.py` makes this file of `phrases.rt`.\n\n")
-        out.write("use rl_phrase::table::{Form, Rule};\nuse rl_phrase::terminal;\n\n")
+        out.write("//! The grammar of modules as a table of rows. `tools/phrase-table.py` makes this file of `specs/Grammar.antt`.\n\n")
+        out.write("use rl_phrase::table::{Form, Rule};\nuse rl_tokens::terminal;\n\n")
         out.write(ROWS)
         for name in rules:
             out.write(f"/// `{name}`\npub const {constant(name)}: u32 = {starts[name]};\n")
@@ -197,19 +233,6 @@ def main():
                     line = "   "
                 line += " " + row
             out.write(line + "\n")
-        out.write("];\n")
-
-    with open(NAMES, "w") as out:
-        out.write("// The words of the rules and the terminals, for the test that prints the table. `tools/phrase-table.py` makes this file of\n// `phrases.rt`.\n\n")
-        out.write("use crate::rules;\n\n// The rules in the order of the text.\n")
-        out.write(f"pub const RULE_NAMES: [(&str, u32); {len(rules)}] = [\n")
-        for name in rules:
-            out.write(f"    (\"{name}\", rules::{constant(name)}),\n")
-        out.write("];\n\n// The terminals by number.\n")
-        out.write(f"pub const TERMINAL_WORDS: [&str; {len(found)}] = [\n")
-        for word in found:
-            shown = word if word in CLASSES else f'"{word}"'
-            out.write("    \"" + shown.replace("\\", "\\\\").replace('"', '\\"') + "\",\n")
         out.write("];\n")
 
     starts_of = {constant(name): row for name, row in starts.items()}
@@ -232,7 +255,7 @@ def main():
 
     with open(CERTIFICATE, "w") as out:
         out.write("-- For each row of the grammar of modules whether it can take nothing, and a number that is greater than those of the rows\n")
-        out.write("-- with which it may begin. `tools/phrase-table.py` makes this file of `phrases.rt`.\n")
+        out.write("-- with which it may begin. `tools/phrase-table.py` makes this file of `specs/Grammar.antt`.\n")
         out.write("use Rattle.std.specs.Prelude.{ℕ, List, [], ◌∷◌, Bool, true, false}\n\n")
         out.write("abbrev pub empties : List Bool\nempties = ")
         out.write(" ∷ ".join("true" if row in empties else "false" for row in range(len(rows))) + " ∷ []\n\n")

@@ -1,3 +1,4 @@
+-- What the parts of values are.
 pub mod Operands
 pub mod Rows
 pub mod Elements

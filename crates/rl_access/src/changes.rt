@@ -1,3 +1,5 @@
+//! What a value becomes by an assignment to one of its parts.
+
 ghost use Rattle.std.specs.Prelude.{◌≡◌, ◌<◌, ◌++◌, ◌∷◌, [], map, length, slice_set, IfOk};
 ghost use Rattle.std.specs.BTreeMap.{insert_entry};
 ghost use Rattle.rl_value.specs.Plain.{list, tuple, mapping, node, plains_of, pairs_of};
@@ -56,7 +58,7 @@ fn with_part(alloc: Global, parts: &[Value], i: &Value, v: &Value) -> Result<Val
     }
 }
 
-/// The values, shared, with `v` at a place.
+// The values, shared, with `v` at a place.
 fn with_one(
     alloc: Global,
     values: &[Value],
@@ -79,7 +81,7 @@ fn with_entry(alloc: Global, entries: &[Entry], key: &Value, v: &Value) -> Resul
     fitted_map(alloc, pairs)
 }
 
-/// The keys with their values, and one more behind them.
+// The keys with their values, and one more behind them.
 fn with_pair(
     alloc: Global,
     entries: &[Entry],
@@ -93,7 +95,7 @@ fn with_pair(
     Ok(pairs)
 }
 
-/// The keys with their values, shared.
+// The keys with their values, shared.
 fn pairs(alloc: Global, entries: &[Entry]) -> Result<Vec<(Value, Value)>, AllocError>
     ensures { IfOk result (λ pairs. pairs.items ≡ map pair_of entries.now) }
 {

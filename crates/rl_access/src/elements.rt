@@ -1,3 +1,5 @@
+//! What `a[i]` gives.
+
 ghost use Rattle.std.specs.Prelude.{◌≡◌, true, false, map};
 ghost use Rattle.std.specs.Option.{option_copied};
 ghost use Rattle.std.specs.Ordering.{is_lt};
@@ -71,7 +73,7 @@ fn value_of(alloc: Global, entries: &[Entry], key: &Value) -> Result<Value, OpEn
     }
 }
 
-/// The value of a key, by halving.
+// The value of a key, by halving.
 fn find<'a>(entries: &'a [Entry], key: &Value) -> Option<&'a Value>
     requires { Rises plain_cmp (map (λ e. e.key) entries.now) }
     ensures { option_copied result ≡ value_at key.now (map pair_of entries.now) }
@@ -86,7 +88,7 @@ fn find<'a>(entries: &'a [Entry], key: &Value) -> Option<&'a Value>
     None
 }
 
-/// The place of the first entry whose key is not below this one.
+// The place of the first entry whose key is not below this one.
 fn key_place(entries: &[Entry], key: &Value) -> usize
     requires { Rises plain_cmp (map (λ e. e.key) entries.now) }
     ensures { IsPartitionPoint (λ e. is_lt (plain_cmp e.key key.now) ≡ true) (λ e. is_lt (plain_cmp e.key key.now) ≡ false) entries.now result }
@@ -94,7 +96,7 @@ fn key_place(entries: &[Entry], key: &Value) -> usize
     entries.partition_point(|entry| is_before(entry, key))
 }
 
-/// Whether the key of an entry is below this one.
+// Whether the key of an entry is below this one.
 fn is_before(entry: &Entry, key: &Value) -> bool
     ensures { result ≡ is_lt (plain_cmp entry.now.key key.now) }
 {

@@ -1,3 +1,5 @@
+//! What `a.f` gives, where f is the name of the field that stands at a place, if there is one.
+
 ghost use Rattle.std.specs.Prelude.{slice_get};
 ghost use Rattle.std.specs.Option.{option_and_then};
 ghost use Rattle.rl_exception.specs.Answer.{Answers, throwing};

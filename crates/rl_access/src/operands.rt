@@ -1,3 +1,5 @@
+//! What operands ask for, and the exception that is thrown where they ask in vain.
+
 ghost use Rattle.std.specs.Prelude.{◌≡◌, ◌<ℤ◌, pos, length, IfOk};
 ghost use Rattle.std.specs.Str.{chars};
 ghost use Rattle.std.specs.String.{string_bytes};
@@ -19,7 +21,7 @@ pub(crate) fn place_of(count: usize, index: i128) -> Option<usize>
     }
 }
 
-/// The same of a negative index.
+// The same of a negative index.
 fn from_end(count: usize, index: i128) -> Option<usize>
     requires { index <ℤ pos 0 }
     ensures { result ≡ place_of count index }

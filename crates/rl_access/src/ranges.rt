@@ -1,3 +1,5 @@
+//! What `[a..b]` and `[a, next..b]` give.
+
 ghost use Rattle.std.specs.Prelude.{◌≡◌, ◌<◌, ◌-ℤ◌, ◌+ℤ◌, unsigned_abs, true, IfOk, map};
 ghost use Rattle.std.specs.Int.{div_ceil};
 ghost use Rattle.std.specs.List.{list_all};
@@ -45,7 +47,7 @@ fn by_next(alloc: Global, a: &Value, next: &Value, b: &Value) -> Result<Value, O
     }
 }
 
-/// The numbers from `a` on by `step` that stand before `b`.
+// The numbers from `a` on by `step` that stand before `b`.
 fn counted(alloc: Global, a: i128, step: i128, b: i128) -> Result<Value, OpEnd>
     ensures { Answers (fitting (numbers (counted_to b a step))) result }
 {
@@ -57,7 +59,7 @@ fn counted(alloc: Global, a: i128, step: i128, b: i128) -> Result<Value, OpEnd>
     fitted_list(alloc, found)
 }
 
-/// How many numbers stand before `b` from `a` on by `step`.
+// How many numbers stand before `b` from `a` on by `step`.
 fn count(a: i128, step: i128, b: i128) -> u128
     ensures { by_steps result a step ≡ counted_to b a step }
 {
@@ -70,7 +72,7 @@ fn count(a: i128, step: i128, b: i128) -> u128
     }
 }
 
-/// How many steps it takes from `a` to `b` or past it.
+// How many steps it takes from `a` to `b` or past it.
 fn count_over(a: i128, step: i128, b: i128) -> u128
     requires { 0 < unsigned_abs step }
     ensures { result ≡ div_ceil (unsigned_abs (b -ℤ a)) (unsigned_abs step) }
@@ -78,7 +80,7 @@ fn count_over(a: i128, step: i128, b: i128) -> u128
     b.abs_diff(a).div_ceil(step.unsigned_abs())
 }
 
-/// That many numbers from `a` on by `step`.
+// That many numbers from `a` on by `step`.
 fn steps(alloc: Global, a: i128, step: i128, count: usize) -> Result<Vec<Value>, AllocError>
     requires { list_all is_in_range (by_steps count a step) ≡ true }
     ensures { IfOk result (λ found. found.items ≡ map int (by_steps count a step)) }
@@ -92,7 +94,7 @@ fn steps(alloc: Global, a: i128, step: i128, count: usize) -> Result<Vec<Value>,
     Ok(found)
 }
 
-/// The number one step further, where it is a number of the language.
+// The number one step further, where it is a number of the language.
 fn after(number: i128, step: i128) -> i128
     ensures { is_in_range (number +ℤ step) ≡ true → result ≡ (number +ℤ step) }
 {

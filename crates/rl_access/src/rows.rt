@@ -1,3 +1,5 @@
+//! The rows of a relation: tuples of two parts or more.
+
 ghost use Rattle.std.specs.Prelude.{◌≡◌, ◌≤◌, length, true, false, IfOk};
 ghost use Rattle.std.specs.List.{list_all};
 ghost use Rattle.std.specs.List.Sorted.{IsPartitionPoint};
@@ -31,7 +33,7 @@ fn are_rows(items: &[Value]) -> bool
     items.iter().all(|item| is_row(item))
 }
 
-/// Whether a value is a tuple of two parts or more.
+// Whether a value is a tuple of two parts or more.
 fn is_row(value: &Value) -> bool
     ensures { result ≡ is_row value.now }
 {
@@ -41,7 +43,7 @@ fn is_row(value: &Value) -> bool
     }
 }
 
-/// The place of the first of these rising rows that begins with `key` or with something above it.
+// The place of the first of these rising rows that begins with `key` or with something above it.
 fn first_row(rows: &[Value], key: &Value) -> usize
     requires rises { Rises plain_cmp rows.now }
     requires rows { list_all is_row rows.now ≡ true }
@@ -51,7 +53,7 @@ fn first_row(rows: &[Value], key: &Value) -> usize
     rows.partition_point(|row| is_below(row, key))
 }
 
-/// Whether a row begins with something below `key`.
+// Whether a row begins with something below `key`.
 fn is_below(row: &Value, key: &Value) -> bool
     ensures { result ≡ is_below key.now row.now }
 {
@@ -61,7 +63,7 @@ fn is_below(row: &Value, key: &Value) -> bool
     }
 }
 
-/// Whether a row begins with `key`.
+// Whether a row begins with `key`.
 fn begins_with(row: &Value, key: &Value) -> bool
     ensures { result ≡ begins_with key.now row.now }
 {
@@ -82,7 +84,7 @@ pub fn rests(alloc: Global, rows: &[Value], key: &Value) -> Result<Vec<Value>, A
     rests_from(alloc, rows, start, key)
 }
 
-/// The same, where the first of them stands at `start`, if there is one.
+// The same, where the first of them stands at `start`, if there is one.
 fn rests_from(
     alloc: Global,
     rows: &[Value],
@@ -106,7 +108,7 @@ fn rests_from(
     Ok(found)
 }
 
-/// What stands behind the first part of a row.
+// What stands behind the first part of a row.
 fn rest_of(alloc: Global, row: &Value) -> Result<Value, AllocError>
     requires { is_row row.now ≡ true }
     ensures { IfOk result (λ rest. rest ≡ rest_of row.now) }
@@ -130,7 +132,7 @@ fn behind_first(alloc: Global, parts: &[Value]) -> Result<Value, AllocError>
     }
 }
 
-/// A tuple of parts that fit in one.
+// A tuple of parts that fit in one.
 fn narrower(alloc: Global, parts: Vec<Value>) -> Result<Value, AllocError>
     requires { Fits (tuple (plains_of parts.items)) }
     ensures { IfOk result (λ made. made ≡ tuple (plains_of parts.items)) }

@@ -1,3 +1,5 @@
+//! What `a[from..to]` gives.
+
 ghost use Rattle.std.specs.Prelude.{◌≡◌, ◌≤◌, length, slice_range, IfOk};
 ghost use Rattle.std.specs.Option.{option_copied};
 ghost use Rattle.rl_value.specs.Plain.{text, list, plains_of};
@@ -61,7 +63,7 @@ fn subtext(
     }
 }
 
-/// Where a slice of this many elements starts and ends.
+// Where a slice of this many elements starts and ends.
 fn cut(
     alloc: Global,
     count: usize,
@@ -79,7 +81,7 @@ fn cut(
     Ok((start, end))
 }
 
-/// The number that a bound is, if there is one.
+// The number that a bound is, if there is one.
 fn number(alloc: Global, bound: Option<&Value>) -> Result<Option<i128>, OpEnd>
     ensures { Finds (number_of (option_copied bound.entry)) result }
 {
@@ -92,7 +94,7 @@ fn number(alloc: Global, bound: Option<&Value>) -> Result<Option<i128>, OpEnd>
     }
 }
 
-/// The place of a bound among `count` elements from `low` on; `missing` where there is none.
+// The place of a bound among `count` elements from `low` on; `missing` where there is none.
 fn bound(
     alloc: Global,
     count: usize,
@@ -111,7 +113,7 @@ fn bound(
     }
 }
 
-/// The place that an index names among `high` elements, from `low` up to their end.
+// The place that an index names among `high` elements, from `low` up to their end.
 fn place_between(low: usize, high: usize, index: i128) -> Option<usize>
     ensures { result ≡ place_between low high index }
 {

@@ -1,2 +1,3 @@
+-- What library functions share.
 pub mod Arguments
 pub mod Lists

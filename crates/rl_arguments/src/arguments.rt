@@ -1,3 +1,5 @@
+//! The arguments that library functions take, and what comes of an argument of another kind.
+
 ghost use Rattle.std.specs.Prelude.{◌≡◌, map, IfSome};
 ghost use Rattle.std.specs.Option.{option_copied, option_map};
 ghost use Rattle.rl_value.specs.View.{pair_of};

@@ -1,8 +1,8 @@
 //! The arguments that library functions take, each by its kind.
 #![tactic(auto)]
 
-pub mod arguments;
-pub mod sharing;
+mod arguments;
+mod sharing;
 
 pub use arguments::{entries_in, list_in, set_in, str_in};
 pub use sharing::shares;

@@ -1,3 +1,5 @@
+//! Shares of several values.
+
 ghost use Rattle.std.specs.Prelude.{◌≡◌, IfOk};
 
 use rl_value::Value;

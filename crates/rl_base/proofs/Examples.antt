@@ -1,16 +1,17 @@
 -- Worked examples of the definitions, which compute.
 use Rattle.std.proofs.Common.{◌≡◌, [], ◌∷◌, Some, None, Ok, Err, refl}
-use Rattle.rl_base.specs.Told.{told_after}
+use Rattle.rl_base.specs.Asked.{asked_after}
+use Rattle.rl_base.specs.Told.{Grows}
 use Rattle.rl_base.specs.Faults.{last_count, count_after}
 use Rattle.rl_base.specs.ReadAnswer.{answer_of}
 use Rattle.rl_base.specs.MemSink.{SinkState, next_fail, after_put}
 use Rattle.rl_base.specs.declared.files.ReadEnd.TheVariants.{Missing, TooLong}
 
-told : told_after (Some (1 ∷ [])) (2 ∷ 3 ∷ []) ≡ Some (1 ∷ 2 ∷ 3 ∷ [])
+told : Grows (Some (1 ∷ [])) (2 ∷ 3 ∷ []) (Some (1 ∷ 2 ∷ 3 ∷ []))
 told = refl
 
-untold : told_after None (2 ∷ []) ≡ None
-untold = refl
+asked : asked_after (Some ((1 ∷ []) ∷ [])) ((2 ∷ []) ∷ []) ≡ Some ((1 ∷ []) ∷ (2 ∷ []) ∷ [])
+asked = refl
 
 counts : count_after 7 ≡ 8
 counts = refl

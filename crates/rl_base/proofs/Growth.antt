@@ -1,23 +1,31 @@
--- What was told stays told.
-use Rattle.std.proofs.Common.{ℕ, List, [], ◌++◌, Some, None, refl, sym, ◌∙◌, ap, append_assoc, append-nil, take, drop}
-use Rattle.std.proofs.lemmas.List.{take-append-drop}
-use Rattle.rl_base.specs.Told.{Told, told_after, Extends}
+-- What was told grows.
+use Rattle.std.proofs.Common.{◌≡◌, ℕ, List, [], ◌++◌, Option, Some, None, sym, ◌∙◌, ap, subst, append_assoc, append-nil}
+use Rattle.std.specs.Io.KnownBytes.{Appends, Keeps}
+use Rattle.rl_base.specs.Told.{Told, Grows}
 
-pub Extends-refl : (t : Told) → Extends t t
-Extends-refl None = tt
-Extends-refl (Some xs) = ([], append-nil xs)
+pub Grows-nil : (t : Told) → Grows t [] t
+Grows-nil None = tt
+Grows-nil (Some xs) = ap Some (sym (append-nil xs))
 
-pub Extends-trans : (a b c : Told) → Extends a b → Extends b c → Extends a c
-Extends-trans None b c h k = tt
-Extends-trans (Some xs) None c h k = absurd h
-Extends-trans (Some xs) (Some ys) None h k = absurd k
-Extends-trans (Some xs) (Some ys) (Some zs) h k = (h.0 ++ k.0, sym (append_assoc xs h.0 k.0) ∙ (ap (λ v. v ++ k.0) h.1 ∙ k.1))
+pub Grows-then : (t u w : Told) (xs ys : List ℕ) → Grows t xs u → Grows u ys w → Grows t (xs ++ ys) w
+Grows-then None u w xs ys h k = tt
+Grows-then (Some a) u w xs ys h k =
+    let P : Told → Type 0 = λ v. Grows v ys w in
+    let more : w ≡ Some ((a ++ xs) ++ ys) = subst P h k in
+    more ∙ ap Some (append_assoc a xs ys)
 
-pub Extends-after : (t : Told) (bytes : List ℕ) → Extends t (told_after t bytes)
-Extends-after None bytes = tt
-Extends-after (Some xs) bytes = (bytes, refl)
+pub Grows-kept : (t u w : Told) (xs : List ℕ) → Grows t xs u → w ≡ u → Grows t xs w
+Grows-kept None u w xs h k = tt
+Grows-kept (Some a) u w xs h k = k ∙ h
 
--- a front of a piece
-pub Extends-part : (t : Told) (bytes : List ℕ) (k : ℕ) → Extends (told_after t (take k bytes)) (told_after t bytes)
-Extends-part None bytes k = tt
-Extends-part (Some xs) bytes k = (drop k bytes, append_assoc xs (take k bytes) (drop k bytes) ∙ ap (λ v. xs ++ v) (take-append-drop k bytes))
+-- the known bytes of a writer
+pub Grows-appends : (t u : Option (List ℕ)) (xs : List ℕ) → Appends t u xs → Grows t xs u
+Grows-appends None u xs h = tt
+Grows-appends (Some a) None xs h = absurd h
+Grows-appends (Some a) (Some b) xs h = ap Some h
+
+pub Grows-keeps : (t u w : Option (List ℕ)) (xs : List ℕ) → Grows t xs u → Keeps u w → Grows t xs w
+Grows-keeps None u w xs h k = tt
+Grows-keeps (Some a) None w xs h k = absurd cc
+Grows-keeps (Some a) (Some b) None xs h k = absurd k
+Grows-keeps (Some a) (Some b) (Some c) xs h k = ap Some k ∙ h

@@ -1,7 +1,6 @@
 -- A writer as a sink.
-use Rattle.std.specs.Prelude.{ℕ, List, take, Option, refl}
+use Rattle.std.specs.Prelude.{ℕ, refl}
 use Rattle.std.specs.Coded.{Coded, code_by, coded×, coded_ℕ}
-use Rattle.std.specs.Io.KnownBytes.{Appends}
 
 -- the writer, and how many faults there were
 pub record SinkOver (W : Type 0) : Type 0 where
@@ -10,7 +9,3 @@ pub record SinkOver (W : Type 0) : Type 0 where
 
 abbrev pub sink_over_code : {W : Type 0} → Coded W → Coded (SinkOver W)
 sink_over_code {W} writer = code_by (W × ℕ) (coded× writer coded_ℕ) (λ s. (s.writer, s.faults)) (λ p. record { writer = p.0; faults = p.1 }) (λ _. refl)
-
--- known bytes grow by a front of the piece
-abbrev pub AppendsPart : Option (List ℕ) → Option (List ℕ) → List ℕ → Type 0
-AppendsPart old new piece = (k : ℕ) × Appends old new (take k piece)

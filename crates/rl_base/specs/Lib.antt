@@ -1,13 +1,17 @@
-pub mod Decode
-pub mod Faults
-pub mod FileTable
+-- The outside: what files hold and were asked, what sinks were told, and the faults of both.
 pub mod Holds
-pub mod HostFiles
-pub mod HostSink
-pub mod Lines
+pub mod Asked
+pub mod ReadAnswer
+pub mod Told
+pub mod Faults
 pub mod MemFiles
 pub mod MemSink
-pub mod ReadAnswer
+pub mod HostFiles
+pub mod HostSink
+-- Texts and their places.
+pub mod Decode
 pub mod Text
-pub mod Told
+-- Inside: how lines and files in memory are kept, and shared values in types that hold themselves.
+pub mod Lines
+pub mod FileTable
 pub mod formers

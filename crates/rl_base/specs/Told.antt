@@ -4,20 +4,14 @@ use Rattle.std.specs.Prelude.{◌≡◌, ℕ, List, ◌++◌, take, Option, Some
 abbrev pub Told : Type 0
 Told = Option (List ℕ)
 
--- what it was told after these bytes too
-abbrev pub told_after : Told → List ℕ → Told
-told_after None bytes = None
-told_after (Some before) bytes = Some (before ++ bytes)
+-- it was told these bytes, and nothing else; nothing is said of a sink that did not say what it was told before
+abbrev pub Grows : Told → List ℕ → Told → Type 0
+Grows None bytes after = Unit {0}
+Grows (Some before) bytes after = after ≡ Some (before ++ bytes)
+
+-- it was told a front of the piece, and nothing else
+abbrev pub TakesPart : Told → List ℕ → Told → Type 0
+TakesPart before piece after = (k : ℕ) × Grows before (take k piece) after
 
 abbrev pub IsPrefixOf : List ℕ → List ℕ → Type 0
 IsPrefixOf xs ys = (rest : List ℕ) × (xs ++ rest ≡ ys)
-
--- the second goes on from the first
-abbrev pub Extends : Told → Told → Type 0
-Extends None t = Unit {0}
-Extends (Some xs) None = ⊥
-Extends (Some xs) (Some ys) = IsPrefixOf xs ys
-
--- a front of the piece was told, and nothing else
-abbrev pub TakesPart : Told → List ℕ → Told → Type 0
-TakesPart before piece after = (k : ℕ) × (after ≡ told_after before (take k piece))

@@ -1,3 +1,5 @@
+//! A table of files in memory.
+
 ghost use Rattle.std.specs.Prelude.{◌≡◌, ◌≢◌, ◌≤◌, Some, IfOk, OnOk, OnErr, vec_len};
 ghost use Rattle.std.specs.Option.{option_copied, option_map};
 ghost use Rattle.std.specs.FinMap as map;
@@ -9,7 +11,7 @@ use std::alloc::{AllocError, Global};
 use std::collections::BTreeMap;
 use std::marker::Model;
 
-/// Files in memory, which contracts see as a map from paths to bytes.
+// Files in memory, which contracts see as a map from paths to bytes.
 #[derive(Drop)]
 pub(crate) struct FileTable {
     files: BTreeMap<String, Vec<u8>>,
@@ -36,14 +38,14 @@ impl FileTable {
         }
     }
 
-    /// The bytes of a path's file, if there is one.
+    // The bytes of a path's file, if there is one.
     fn get(&self, path: &str) -> Option<&Vec<u8>>
         ensures { option_map (λ bytes. bytes.items) (option_copied result) ≡ file_at self.now path.now }
     {
         self.files.get(path)
     }
 
-    /// A copy of a path's file, if there is one of at most `limit` bytes. It never fails.
+    // A copy of a path's file, if there is one of at most `limit` bytes. It never fails.
     pub(crate) fn read(&self, alloc: Global, path: &str, limit: u32) -> Result<Vec<u8>, ReadEnd>
         ensures answer { ReadAnswer (Some self.now) path.now limit result }
         ensures short { IfOk result (λ bytes. vec_len bytes ≤ limit) }
@@ -56,7 +58,7 @@ impl FileTable {
         }
     }
 
-    /// Sets the file of one path. A refusal changes nothing.
+    // Sets the file of one path. A refusal changes nothing.
     pub(crate) fn set(&mut self, alloc: Global, path: &str, bytes: &[u8]) -> Result<(), AllocError>
         ensures ok { OnOk result (self.new ≡ map.insert self.old path.now bytes.now) }
         ensures err { OnErr result (self.new ≡ self.old) }

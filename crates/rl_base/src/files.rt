@@ -1,4 +1,7 @@
+//! Reading files, as a trait.
+
 ghost use Rattle.std.specs.Prelude.{◌≡◌, ◌≤◌, ℕ, vec_len, IfOk, IsErrOf};
+ghost use Rattle.rl_base.specs.Asked.{Asked, AsksFor};
 ghost use Rattle.rl_base.specs.Faults.{Rose};
 ghost use Rattle.rl_base.specs.Holds.{Holds};
 ghost use Rattle.rl_base.specs.ReadAnswer.{ReadAnswer};
@@ -33,12 +36,16 @@ pub trait Files {
     /// The files, if it says which there are.
     ghost holds: { Self → Holds };
 
+    /// The paths of the reads so far, in order, if it says so.
+    ghost asked: { Self → Asked };
+
     /// A count of the faults of the outside.
     ghost faults: { Self → ℕ };
 
     /// Reads the file of a path, if it has at most `limit` bytes.
     fn read(&mut self, alloc: Global, path: &str, limit: u32) -> Result<Vec<u8>, ReadEnd>
         ensures held { holds self.new ≡ holds self.old }
+        ensures asked { AsksFor (asked self.old) path.now result (asked self.new) }
         ensures counted { faults self.old ≤ faults self.new }
         ensures answer { ReadAnswer (holds self.old) path.now limit result }
         ensures short { IfOk result (λ bytes. vec_len bytes ≤ limit) }
@@ -49,7 +56,7 @@ pub trait Files {
 pub(crate) mod tests {
     use super::*;
 
-    /// An answer is the one that is wanted.
+    // An answer is the one that is wanted.
     pub(crate) fn is_answer(
         answer: &Result<Vec<u8>, ReadEnd>,
         want: &Result<&[u8], ReadEnd>,

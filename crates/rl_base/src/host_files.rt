@@ -1,5 +1,8 @@
+//! The files of the machine.
+
 ghost use Rattle.std.specs.Prelude.{◌≡◌, ◌≢◌, ◌≤◌, ◌↔◌, ◌⊎◌, ℕ, None, IfOk, IsErrOf, vec_len};
 ghost use Rattle.std.specs.IoError.{error_kind};
+ghost use Rattle.rl_base.specs.Asked.{AsksFor};
 ghost use Rattle.rl_base.specs.Faults.{Rose};
 ghost use Rattle.rl_base.specs.HostFiles.{faults_after_read};
 
@@ -9,7 +12,8 @@ use std::io::{Error, ErrorKind, Read};
 use std::marker::Model;
 use std::{fs, rt};
 
-/// The files of the machine. What they hold is not told: contracts see only the count of faults.
+/// The files of the machine. What they hold and what was asked of them is not told: contracts see
+/// only the count of faults.
 ///
 /// A file that does not exist is Missing. Every other fault of the machine is Failed, as a folder
 /// in the place of a file, or a path through a file. Want of memory is OutOfMemory. Each Failed
@@ -38,6 +42,8 @@ impl<R: rt::Files> HostFiles<R> {
 impl<R: rt::Files> Files for HostFiles<R> {
     ghost holds = { λ _. None };
 
+    ghost asked = { λ _. None };
+
     ghost faults = { λ faults. faults };
 
     /// Reads no more than one byte past the limit.
@@ -46,6 +52,7 @@ impl<R: rt::Files> Files for HostFiles<R> {
         ensures faults { self.new ≡ faults_after_read self.old result }
 
         // What every reader of files promises.
+        ensures asked { AsksFor None path.now result None }
         ensures counted { self.old ≤ self.new }
         ensures short { IfOk result (λ bytes. vec_len bytes ≤ limit) }
         ensures failed { IsErrOf result ReadEnd.Failed → Rose self.old self.new }
@@ -77,7 +84,7 @@ fn read_file<R: rt::Files>(
     Ok(bytes)
 }
 
-/// What it means that a file was not opened.
+// What it means that a file was not opened.
 fn open_end(error: &Error) -> ReadEnd
     ensures missing { result ≡ ReadEnd.Missing ↔ error_kind error.now ≡ ErrorKind.NotFound }
     ensures memory { result ≡ ReadEnd.OutOfMemory ↔ error_kind error.now ≡ ErrorKind.OutOfMemory }
@@ -89,7 +96,7 @@ fn open_end(error: &Error) -> ReadEnd
     }
 }
 
-/// What it means that an open file was not read.
+// What it means that an open file was not read.
 fn read_end(error: &Error) -> ReadEnd
     ensures memory { result ≡ ReadEnd.OutOfMemory ↔ error_kind error.now ≡ ErrorKind.OutOfMemory }
     ensures failed { result ≡ ReadEnd.Failed ⊎ result ≡ ReadEnd.OutOfMemory }

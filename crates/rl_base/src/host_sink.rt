@@ -1,16 +1,16 @@
-ghost use Rattle.std.specs.Prelude.{◌≡◌, ◌≤◌, None, OnOk, OnErr, is_err, if◌then◌else◌};
+//! A writer as a sink.
+
+ghost use Rattle.std.specs.Prelude.{◌≡◌, ◌≤◌, OnOk, OnErr, is_err, if◌then◌else◌};
 ghost use Rattle.std.specs.Bool.{OnTrue, OnFalse};
-ghost use Rattle.std.specs.Io.KnownBytes.{Appends};
 ghost use Rattle.rl_base.specs.Faults.{Rose, count_after};
-ghost use Rattle.rl_base.specs.HostSink.{AppendsPart};
+ghost use Rattle.rl_base.specs.Told.{Grows, TakesPart};
 
 use crate::sink::{PutFailed, Sink};
 use std::io::{ErrorKind, Write};
 use std::marker::Model;
 
 /// A writer of the machine as a sink, which contracts see as the writer and the count of faults.
-/// As a sink it does not say what it was told. Where the writer itself says what bytes it holds,
-/// the contract of `put` says how they grow.
+/// It says what it was told where the writer says what bytes it holds.
 ///
 /// A write that fails, that takes nothing of a piece that is not empty, or a flush that fails is a
 /// fault. Each PutFailed raises the faults, a `u64` that stays at its last value.
@@ -40,21 +40,19 @@ impl<W: Write> HostSink<W> {
 }
 
 impl<W: Write> Sink for HostSink<W> {
-    ghost told = { λ _. None };
+    ghost told = { λ sink. W.contents sink.writer };
 
     ghost faults = { λ sink. sink.faults };
 
     /// Writes until the whole piece is taken, and then flushes the writer.
     fn put(&mut self, piece: &[u8]) -> Result<(), PutFailed>
-        // Where the writer says what it holds, it grows by the piece, or by a front of it.
-        ensures written { OnOk result (Appends (W.contents self.old.writer) (W.contents self.new.writer) piece.now) }
-        ensures cut { OnErr result (AppendsPart (W.contents self.old.writer) (W.contents self.new.writer) piece.now) }
-
         // The faults rise at each failure, and at no other put.
         ensures faults { self.new.faults ≡ (if is_err result then count_after self.old.faults else self.old.faults) }
 
         // What every sink promises.
         ensures counted { self.old.faults ≤ self.new.faults }
+        ensures ok { OnOk result (Grows (W.contents self.old.writer) piece.now (W.contents self.new.writer)) }
+        ensures err { OnErr result (TakesPart (W.contents self.old.writer) piece.now (W.contents self.new.writer)) }
         ensures failed { OnErr result (Rose self.old.faults self.new.faults) }
     {
         if write_piece(&mut self.writer, piece) {
@@ -65,10 +63,10 @@ impl<W: Write> Sink for HostSink<W> {
     }
 }
 
-/// Whether the writer took the whole piece.
+// Whether the writer took the whole piece.
 fn write_piece<W: Write>(writer: &mut W, piece: &[u8]) -> bool
-    ensures whole { OnTrue result (Appends (W.contents writer.old) (W.contents writer.new) piece.now) }
-    ensures cut { OnFalse result (AppendsPart (W.contents writer.old) (W.contents writer.new) piece.now) }
+    ensures whole { OnTrue result (Grows (W.contents writer.old) piece.now (W.contents writer.new)) }
+    ensures cut { OnFalse result (TakesPart (W.contents writer.old) piece.now (W.contents writer.new)) }
 {
     let mut rest = piece;
     // The bound ends the loop where a writer is interrupted for ever.
@@ -92,7 +90,7 @@ mod tests {
     use std::io;
     use std::test::Fail;
 
-    /// A writer in memory that takes two bytes at a time, and at last none.
+    // A writer in memory that takes two bytes at a time, and at last none.
     #[derive(Drop)]
     struct Narrow {
         taken: Vec<u8>,

@@ -1,5 +1,7 @@
+//! A sink in memory.
+
 ghost use Rattle.std.specs.Prelude.{◌≡◌, ◌≤◌, ◌↔◌, [], Some, IsTrue, IsErr, IfOk, OnOk, OnErr};
-ghost use Rattle.rl_base.specs.Told.{told_after, TakesPart};
+ghost use Rattle.rl_base.specs.Told.{Grows, TakesPart};
 ghost use Rattle.rl_base.specs.Faults.{Rose};
 ghost use Rattle.rl_base.specs.MemSink.{next_fail, next_put_fails, after_put};
 
@@ -54,7 +56,14 @@ impl MemSink {
         self.bytes.as_slice()
     }
 
-    /// How much the next put takes at most, if it is one of those that fail.
+    /// How often `put` was called.
+    pub fn puts(&self) -> u64
+        ensures { result ≡ self.now.puts }
+    {
+        self.puts
+    }
+
+    // How much the next put takes at most, if it is one of those that fail.
     fn next_fail(&self) -> Option<u32>
         ensures { result ≡ next_fail self.now }
     {
@@ -80,7 +89,7 @@ impl Sink for MemSink {
 
         // What every sink promises.
         ensures counted { self.old.faults ≤ self.new.faults }
-        ensures ok { OnOk result (Some self.new.bytes ≡ told_after (Some self.old.bytes) piece.now) }
+        ensures ok { OnOk result (Grows (Some self.old.bytes) piece.now (Some self.new.bytes)) }
         ensures err { OnErr result (TakesPart (Some self.old.bytes) piece.now (Some self.new.bytes)) }
         ensures failed { OnErr result (Rose self.old.faults self.new.faults) }
     {

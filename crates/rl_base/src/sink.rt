@@ -1,5 +1,7 @@
+//! Output, as a trait.
+
 ghost use Rattle.std.specs.Prelude.{◌≡◌, ◌≤◌, ℕ, OnOk, OnErr};
-ghost use Rattle.rl_base.specs.Told.{Told, told_after, TakesPart};
+ghost use Rattle.rl_base.specs.Told.{Told, Grows, TakesPart};
 ghost use Rattle.rl_base.specs.Faults.{Rose};
 
 /// A piece was not put, or not all of it.
@@ -17,7 +19,7 @@ pub trait Sink {
     /// Puts a whole piece, or fails after a front of it. It takes no memory.
     fn put(&mut self, piece: &[u8]) -> Result<(), PutFailed>
         ensures counted { faults self.old ≤ faults self.new }
-        ensures ok { OnOk result (told self.new ≡ told_after (told self.old) piece.now) }
+        ensures ok { OnOk result (Grows (told self.old) piece.now (told self.new)) }
         ensures err { OnErr result (TakesPart (told self.old) piece.now (told self.new)) }
         ensures failed { OnErr result (Rose (faults self.old) (faults self.new)) };
 }

@@ -1,3 +1,4 @@
+-- What the library functions over lists, sets and maps give.
 pub mod Ends
 pub mod Extremes
 pub mod Lists

@@ -1,3 +1,5 @@
+//! head, last and tail.
+
 ghost use Rattle.std.specs.Prelude.{◌≡◌};
 ghost use Rattle.rl_exception.specs.Answer.{Answers};
 ghost use Rattle.rl_collections.specs.Ends.{head_of, last_of, tail_of, behind_first};

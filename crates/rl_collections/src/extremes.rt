@@ -1,3 +1,5 @@
+//! max and min.
+
 ghost use Rattle.std.specs.Prelude.{◌≡◌, fold};
 ghost use Rattle.std.specs.Option.{option_copied};
 ghost use Rattle.rl_value.specs.Order.{plain_cmp};
@@ -54,7 +56,7 @@ fn list_min(alloc: Global, items: &[Value]) -> Result<Value, OpEnd>
     }
 }
 
-/// The last element of a set, whose elements rise.
+// The last element of a set, whose elements rise.
 fn set_max(alloc: Global, items: &[Value]) -> Result<Value, OpEnd>
     requires { Rises plain_cmp items.now }
     ensures { Answers (given_or empty_set (greatest items.now)) result }
@@ -65,7 +67,7 @@ fn set_max(alloc: Global, items: &[Value]) -> Result<Value, OpEnd>
     }
 }
 
-/// The first element of a set, whose elements rise.
+// The first element of a set, whose elements rise.
 fn set_min(alloc: Global, items: &[Value]) -> Result<Value, OpEnd>
     requires { Rises plain_cmp items.now }
     ensures { Answers (given_or empty_set (least items.now)) result }

@@ -1,3 +1,5 @@
+//! reverse, take, drop, indexOf and toSet.
+
 ghost use Rattle.std.specs.Prelude.{◌≡◌, ◌≤ℤ◌, pos, IfOk, reverse, map, position};
 ghost use Rattle.rl_value.specs.Laws.{plain_eq};
 ghost use Rattle.std.specs.Int.{int_min};
@@ -67,7 +69,7 @@ fn back(alloc: Global, count: i128, items: &[Value]) -> Result<Value, OpEnd>
     fitted_list(alloc, shares(alloc, &items[place..])?)
 }
 
-/// The place behind `count` elements, or the end.
+// The place behind `count` elements, or the end.
 fn place_within(count: i128, length: usize) -> usize
     requires { pos 0 ≤ℤ count }
     ensures { pos result ≡ int_min count (pos length) }

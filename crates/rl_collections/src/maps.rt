@@ -1,3 +1,5 @@
+//! delete, toList, and domain and range of maps.
+
 ghost use Rattle.std.specs.Prelude.{◌≡◌, IfOk, map, [], ◌∷◌};
 ghost use Rattle.rl_value.specs.Plain.{tuple, plains_of};
 ghost use Rattle.rl_value.specs.View.{pair_of};

@@ -1,3 +1,5 @@
+//! dup.
+
 ghost use Rattle.std.specs.Prelude.{◌≡◌, IfOk, OnOk, [], not, ◌||◌};
 ghost use Rattle.std.specs.BTreeSet.{contains};
 ghost use Rattle.rl_value.specs.Plain.{Plain};
@@ -35,7 +37,7 @@ fn firsts(alloc: Global, items: &[Value]) -> Result<Vec<Value>, AllocError>
     Ok(firsts)
 }
 
-/// Whether a value was not seen before; from now on it was.
+// Whether a value was not seen before; from now on it was.
 fn is_new(seen: &mut BTreeSet<Value>, item: &Value) -> Result<bool, AllocError>
     ensures new { IfOk result (λ new. new ≡ not (contains plain_cmp seen.old item.now)) }
     ensures seen { OnOk result ((t : Plain) → contains plain_cmp seen.new t ≡ (plain_eq item.now t || contains plain_cmp seen.old t)) }

@@ -1,3 +1,5 @@
+//! sort.
+
 ghost use Rattle.std.specs.Prelude.{◌≡◌, IfOk};
 ghost use Rattle.std.specs.Option.{option_copied};
 ghost use Rattle.rl_exception.specs.Answer.{Answers};

@@ -1,3 +1,5 @@
+//! sum.
+
 ghost use Rattle.std.specs.Prelude.{◌≡◌, IfOk, pos};
 ghost use Rattle.std.specs.Option.{option_map};
 ghost use Rattle.rl_exception.specs.Answer.{Answers};
@@ -28,7 +30,7 @@ fn sum_of_all(alloc: Global, items: &[Value]) -> Result<Value, OpEnd>
     }
 }
 
-/// The numbers, where each element is one.
+// The numbers, where each element is one.
 fn numbers_in(alloc: Global, items: &[Value]) -> Result<Option<Vec<i128>>, AllocError>
     ensures { IfOk result (λ found. option_map (λ v. v.items) found ≡ numbers_in items.now) }
 {

@@ -1,4 +1,4 @@
--- Imports, and the declarations of a module.
+-- Imports, and the names of modules.
 use Rattle.std.specs.Prelude.{ℕ, List, [], ◌∷◌, ◌++◌, Option, Some, None, if◌then◌else◌, slice_get, codes}
 use Rattle.rl_base.specs.declared.place.Place.{Place}
 use Rattle.rl_syntax.specs.declared.declaration.Decl.{Decl}
@@ -30,7 +30,3 @@ import_by place parts _ = None
 -- import M; or extend M;
 unfoldable pub import_of : Place → List Form → Option Decl
 import_of place parts = import_by place parts (slice_get parts 1)
-
-abbrev pub as_declaration : Form → Option Decl
-as_declaration (f.Declaration declaration) = Some declaration
-as_declaration _ = None

@@ -1,5 +1,5 @@
 -- Globals and functions.
-use Rattle.std.specs.Prelude.{if◌then◌else◌, List, Option, Some, None, slice_get}
+use Rattle.std.specs.Prelude.{if◌then◌else◌, List, Option, Some, None}
 use Rattle.std.specs.List.{filter_map}
 use Rattle.rl_base.specs.declared.place.Place.{Place}
 use Rattle.rl_syntax.specs.declared.declaration.Body.{Body}
@@ -10,31 +10,24 @@ use Rattle.rl_syntax.specs.declared.declaration.Function.{Function}
 use Rattle.rl_syntax.specs.declared.declaration.Modifier.{Modifier}
 use Rattle.rl_syntax.specs.declared.declaration.Modifier.TheVariants.{Default, Test}
 use Rattle.rl_syntax.specs.declared.identifier.Identifier.{Identifier}
-use Rattle.rl_syntax.specs.declared.pattern.Pattern.{Pattern}
 use Rattle.rl_syntax.specs.declared.ty.Ty.{Ty}
 use Rattle.rl_tokens.specs.declared.terminal.TheConstants.{CLOSE_PARENTHESIS, DEFAULT, EQUALS, PRIVATE, TEST, WHEN}
 use Rattle.rl_forms.specs.declared.form.Form.{Form}
-use Rattle.rl_forms.specs.Words.{before_word, behind_word, given, has_word}
+use Rattle.rl_forms.specs.Part.{first_in, given, part_at}
+use Rattle.rl_forms.specs.Words.{before_word, behind_word, has_word}
 use Rattle.rl_forms.specs.Names.{as_name}
-use Rattle.rl_forms.specs.Types.{as_type}
+use Rattle.rl_forms.specs.Declarations.{as_type}
 use Rattle.rl_forms.specs.Patterns.{as_pattern}
-use Rattle.rl_forms.specs.Expressions.{conditions_or_none, expression_at}
+use Rattle.rl_forms.specs.Expressions.{as_expression, conditions_or_none}
 use Rattle.rl_forms.specs.Statements.{as_statement}
 
--- the first type and the first name of a declaration are its own
-abbrev pub first_type : List Form → Option Ty
-first_type parts = slice_get (filter_map as_type parts) 0
-
-abbrev pub first_name : List Form → Option Identifier
-first_name parts = slice_get (filter_map as_name parts) 0
-
-unfoldable pub global_from : Place → Ty → Identifier → List Form → Option Decl
-global_from place ty name parts =
-    given (expression_at (behind_word EQUALS parts) 0) (λ value. Some (d.Global place (has_word PRIVATE parts) ty name value))
-
--- T x = e;
+-- T x = e; the first type and the first name of a declaration are its own
 unfoldable pub global_of : Place → List Form → Option Decl
-global_of place parts = given (first_type parts) (λ ty. given (first_name parts) (λ name. global_from place ty name parts))
+global_of place parts =
+    given (first_in as_type parts) (λ ty.
+    given (first_in as_name parts) (λ name.
+    given (part_at as_expression (behind_word EQUALS parts) 0) (λ value.
+    Some (d.Global place (has_word PRIVATE parts) ty name value))))
 
 abbrev pub modifier_of : List Form → Option Modifier
 modifier_of parts = if has_word DEFAULT parts then Some Default else (if has_word TEST parts then Some Test else None)
@@ -42,7 +35,7 @@ modifier_of parts = if has_word DEFAULT parts then Some Default else (if has_wor
 -- = e when conditions;
 unfoldable pub valued_body : List Form → Option Body
 valued_body parts =
-    given (expression_at (behind_word EQUALS parts) 0) (λ value.
+    given (part_at as_expression (behind_word EQUALS parts) 0) (λ value.
     Some (b.Value value (conditions_or_none (behind_word WHEN parts) 0)))
 
 -- a value, or statements
@@ -50,9 +43,6 @@ unfoldable pub body_of : List Form → Option Body
 body_of parts = if has_word EQUALS parts then valued_body parts else Some (b.Statements (filter_map as_statement parts))
 
 -- the parameters stand before the first closing parenthesis: behind it a fragment is an expression
-unfoldable pub parameters_of : List Form → List Pattern
-parameters_of parts = filter_map as_pattern (before_word CLOSE_PARENTHESIS parts)
-
 abbrev pub function : Place → Ty → Identifier → Body → List Form → Function
 function place ty name body parts = record {
   place = place;
@@ -60,13 +50,13 @@ function place ty name body parts = record {
   modifier = modifier_of parts;
   ty = ty;
   name = name;
-  parameters = parameters_of parts;
+  parameters = filter_map as_pattern (before_word CLOSE_PARENTHESIS parts);
   body = body;
 }
 
 -- an alternative of a function
 unfoldable pub function_of : Place → List Form → Option Decl
 function_of place parts =
-    given (first_type parts) (λ ty.
-    given (first_name parts) (λ name.
+    given (first_in as_type parts) (λ ty.
+    given (first_in as_name parts) (λ name.
     given (body_of parts) (λ body. Some (d.Function (function place ty name body parts)))))

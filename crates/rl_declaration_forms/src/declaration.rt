@@ -1,18 +1,15 @@
-//! Imports, and the declarations of a module.
+//! Imports, and the names of modules.
 
 ghost use Rattle.std.specs.Prelude.{◌≡◌, ◌++◌, IfOk, OnOk};
-ghost use Rattle.std.specs.List.{filter_map};
-ghost use Rattle.std.specs.Option.{option_copied};
 ghost use Rattle.std.specs.String.{string_bytes};
-ghost use Rattle.rl_declaration_forms.specs.Declaration.{as_declaration, import_from, import_of, qualified_name_of, qualified_text};
+ghost use Rattle.rl_forms.specs.Part.{Gives};
+ghost use Rattle.rl_declaration_forms.specs.Declaration.{import_from, import_of, qualified_name_of, qualified_text};
 
-use rl_base::{Place, Row};
-use rl_forms::Form;
-use rl_forms::names::share_identifier;
+use rl_base::{Name, Place};
 use rl_forms::words::has_word;
-use rl_grammar::Name;
-use rl_phrase::terminal;
+use rl_forms::{Form, FormError};
 use rl_syntax::Decl;
+use rl_tokens::terminal;
 use std::alloc::{AllocError, Global};
 
 // Adds the text of the names, with `::` between them.
@@ -56,72 +53,11 @@ fn import_from(place: Place, name: &Name, parts: &[Form]) -> Result<Decl, AllocE
 
 /// `import M;` or `extend M;`
 #[tactic(auto, unfolding(crate::specs::Declaration::import_of))]
-pub(crate) fn import(place: Place, parts: &[Form]) -> Result<Option<Decl>, AllocError>
-    ensures { IfOk result (λ it. it ≡ import_of place parts.now) }
+pub(crate) fn import(place: Place, parts: &[Form]) -> Result<Decl, FormError>
+    ensures { Gives (import_of place parts.now) result }
 {
     match parts.get(1) {
-        Some(Form::QualifiedName(_, name)) => Ok(Some(import_from(place, name, parts)?)),
-        _ => Ok(None),
+        Some(Form::QualifiedName(_, name)) => Ok(import_from(place, name, parts)?),
+        _ => Err(FormError::Missing),
     }
-}
-
-fn share_declaration(declaration: &Decl) -> Result<Decl, AllocError>
-    ensures { IfOk result (λ it. it ≡ declaration.now) }
-{
-    match declaration {
-        Decl::Import { place, module } => Ok(Decl::Import {
-            place: *place,
-            module: module.share()?,
-        }),
-        Decl::Extend { place, module } => Ok(Decl::Extend {
-            place: *place,
-            module: module.share()?,
-        }),
-        Decl::Syntax(definition) => Ok(Decl::Syntax(definition.share()?)),
-        Decl::Data {
-            place,
-            name,
-            variants,
-        } => Ok(Decl::Data {
-            place: *place,
-            name: share_identifier(name)?,
-            variants: variants.share()?,
-        }),
-        Decl::Global {
-            place,
-            private,
-            ty,
-            name,
-            value,
-        } => Ok(Decl::Global {
-            place: *place,
-            private: *private,
-            ty: ty.share()?,
-            name: share_identifier(name)?,
-            value: value.share()?,
-        }),
-        Decl::Function(function) => Ok(Decl::Function(function.share()?)),
-    }
-}
-
-fn as_declaration(part: &Form) -> Option<&Decl>
-    ensures { option_copied result ≡ as_declaration part.now }
-{
-    match part {
-        Form::Declaration(declaration) => Some(declaration),
-        _ => None,
-    }
-}
-
-/// The declarations among the parts.
-pub fn declarations(alloc: Global, parts: &[Form]) -> Result<Row<Decl>, AllocError>
-    ensures { IfOk result (λ row. row ≡ filter_map as_declaration parts.now) }
-{
-    let mut found = Vec::new(alloc);
-    for part in parts {
-        if let Some(declaration) = as_declaration(part) {
-            found.push(share_declaration(declaration)?)?;
-        }
-    }
-    Row::from_vec(alloc, found)
 }

@@ -1,64 +1,28 @@
 //! Globals and functions.
 
-ghost use Rattle.std.specs.Prelude.{◌≡◌, IfOk};
-ghost use Rattle.rl_declaration_forms.specs.Function.{body_of, function, function_of, global_from, global_of, modifier_of, parameters_of, valued_body};
+ghost use Rattle.std.specs.Prelude.{◌≡◌};
+ghost use Rattle.rl_forms.specs.Part.{Gives};
+ghost use Rattle.rl_declaration_forms.specs.Function.{body_of, function_of, global_of, modifier_of, valued_body};
 
-use crate::type_form::share_type;
-use rl_base::{Place, Row, Shared};
-use rl_forms::Form;
-use rl_forms::expressions::{conditions_or_none, expression_at};
-use rl_forms::names::{names, share_identifier};
-use rl_forms::patterns::patterns;
-use rl_forms::statements::statements;
-use rl_forms::types::types;
+use rl_base::{Place, Shared};
 use rl_forms::words::{before_word, behind_word, has_word};
-use rl_phrase::terminal;
-use rl_syntax::{Body, Decl, Function, Identifier, Modifier, Pattern, Ty};
-use std::alloc::{AllocError, Global};
-
-// The global of this type and name.
-#[tactic(auto, unfolding(crate::specs::Function::global_from))]
-fn global_from(
-    alloc: Global,
-    place: Place,
-    ty: &Shared<Ty>,
-    name: &Identifier,
-    parts: &[Form],
-) -> Result<Option<Decl>, AllocError>
-    ensures { IfOk result (λ it. it ≡ global_from place ty.now name.now parts.now) }
-{
-    let Some(value) = expression_at(alloc, behind_word(terminal::EQUALS, parts), 0)? else {
-        return Ok(None);
-    };
-    let ty = ty.share()?;
-    let name = share_identifier(name)?;
-    Ok(Some(Decl::Global {
-        place,
-        private: has_word(terminal::PRIVATE, parts),
-        ty,
-        name,
-        value,
-    }))
-}
+use rl_forms::{Form, FormError, conditions_or_none, first_in, part_at, row_in};
+use rl_syntax::{Body, Decl, Function, Modifier, Ty};
+use rl_tokens::terminal;
+use std::alloc::Global;
 
 /// `T x = e;`
 #[tactic(auto, unfolding(crate::specs::Function::global_of))]
-pub(crate) fn global(
-    alloc: Global,
-    place: Place,
-    parts: &[Form],
-) -> Result<Option<Decl>, AllocError>
-    ensures { IfOk result (λ it. it ≡ global_of place parts.now) }
+pub(crate) fn global(alloc: Global, place: Place, parts: &[Form]) -> Result<Decl, FormError>
+    ensures { Gives (global_of place parts.now) result }
 {
-    let types = types(alloc, parts)?;
-    let names = names(alloc, parts)?;
-    let Some(ty) = types.as_slice().first() else {
-        return Ok(None);
-    };
-    let Some(name) = names.as_slice().first() else {
-        return Ok(None);
-    };
-    global_from(alloc, place, ty, name, parts)
+    Ok(Decl::Global {
+        place,
+        private: has_word(terminal::PRIVATE, parts),
+        ty: first_in(alloc, parts)?,
+        name: first_in(alloc, parts)?,
+        value: part_at(alloc, behind_word(terminal::EQUALS, parts), 0)?,
+    })
 }
 
 fn modifier(parts: &[Form]) -> Option<Modifier>
@@ -75,82 +39,42 @@ fn modifier(parts: &[Form]) -> Option<Modifier>
 
 // `= e when conditions;`
 #[tactic(auto, unfolding(crate::specs::Function::valued_body))]
-fn valued_body(alloc: Global, parts: &[Form]) -> Result<Option<Body>, AllocError>
-    ensures { IfOk result (λ it. it ≡ valued_body parts.now) }
+fn valued_body(alloc: Global, parts: &[Form]) -> Result<Body, FormError>
+    ensures { Gives (valued_body parts.now) result }
 {
-    let Some(value) = expression_at(alloc, behind_word(terminal::EQUALS, parts), 0)? else {
-        return Ok(None);
-    };
-    let conditions = conditions_or_none(alloc, behind_word(terminal::WHEN, parts), 0)?;
-    Ok(Some(Body::Value { value, conditions }))
+    Ok(Body::Value {
+        value: part_at(alloc, behind_word(terminal::EQUALS, parts), 0)?,
+        conditions: conditions_or_none(alloc, behind_word(terminal::WHEN, parts), 0)?,
+    })
 }
 
 // What stands behind the parameters.
 #[tactic(auto, unfolding(crate::specs::Function::body_of))]
-fn body(alloc: Global, parts: &[Form]) -> Result<Option<Body>, AllocError>
-    ensures { IfOk result (λ it. it ≡ body_of parts.now) }
+fn body(alloc: Global, parts: &[Form]) -> Result<Body, FormError>
+    ensures { Gives (body_of parts.now) result }
 {
     if has_word(terminal::EQUALS, parts) {
         valued_body(alloc, parts)
     } else {
-        let statements = statements(alloc, parts)?;
-        Ok(Some(Body::Statements(statements)))
+        Ok(Body::Statements(row_in(alloc, parts)?))
     }
 }
 
-// The parameters, which stand before the first closing parenthesis: behind it a fragment is an expression.
-#[tactic(auto, unfolding(crate::specs::Function::parameters_of))]
-fn parameters(alloc: Global, parts: &[Form]) -> Result<Row<Shared<Pattern>>, AllocError>
-    ensures { IfOk result (λ row. row ≡ parameters_of parts.now) }
+/// An alternative of a function. Its parameters stand before the first closing parenthesis: behind it a fragment is an
+/// expression.
+#[tactic(auto, unfolding(crate::specs::Function::function_of))]
+pub(crate) fn function(alloc: Global, place: Place, parts: &[Form]) -> Result<Decl, FormError>
+    ensures { Gives (function_of place parts.now) result }
 {
-    patterns(alloc, before_word(terminal::CLOSE_PARENTHESIS, parts))
-}
-
-// The alternative of this type, name and body.
-fn function_from(
-    alloc: Global,
-    place: Place,
-    ty: &Shared<Ty>,
-    name: &Identifier,
-    body: Body,
-    parts: &[Form],
-) -> Result<Function, AllocError>
-    ensures { IfOk result (λ it. it ≡ function place ty.now name.now body parts.now) }
-{
-    let parameters = parameters(alloc, parts)?;
-    let name = share_identifier(name)?;
-    let ty = share_type(ty.get())?;
-    Ok(Function {
+    let ty: Shared<Ty> = first_in(alloc, parts)?;
+    let function = Function {
         place,
         private: has_word(terminal::PRIVATE, parts),
         modifier: modifier(parts),
-        ty,
-        name,
-        parameters,
-        body,
-    })
-}
-
-/// An alternative of a function.
-#[tactic(auto, unfolding(crate::specs::Function::function_of))]
-pub(crate) fn function(
-    alloc: Global,
-    place: Place,
-    parts: &[Form],
-) -> Result<Option<Decl>, AllocError>
-    ensures { IfOk result (λ it. it ≡ function_of place parts.now) }
-{
-    let types = types(alloc, parts)?;
-    let names = names(alloc, parts)?;
-    let Some(ty) = types.as_slice().first() else {
-        return Ok(None);
+        ty: ty.get().share()?,
+        name: first_in(alloc, parts)?,
+        parameters: row_in(alloc, before_word(terminal::CLOSE_PARENTHESIS, parts))?,
+        body: body(alloc, parts)?,
     };
-    let Some(name) = names.as_slice().first() else {
-        return Ok(None);
-    };
-    let Some(body) = body(alloc, parts)? else {
-        return Ok(None);
-    };
-    let function = function_from(alloc, place, ty, name, body, parts)?;
-    Ok(Some(Decl::Function(Shared::new(alloc, function)?)))
+    Ok(Decl::Function(Shared::new(alloc, function)?))
 }

@@ -8,5 +8,4 @@ mod function;
 mod rule;
 mod type_form;
 
-pub use declaration::declarations;
 pub use rule::declaration_form;

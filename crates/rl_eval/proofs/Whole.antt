@@ -1,7 +1,8 @@
 -- A whole run.
-use Rattle.std.proofs.Common.{◌≡◌, ℕ, zero, suc, ◌+◌, ◌<◌, List, [], ◌∷◌, ◌++◌, length, take, drop, false, IsTrue, Some, None, Result, Ok, Err, OnErr, refl, sym, ◌∙◌, ap, rules, arith, append_assoc, append-nil}
+use Rattle.std.proofs.Common.{◌≡◌, ℕ, zero, suc, ◌+◌, ◌<◌, List, [], ◌∷◌, ◌++◌, length, take, drop, false, IsTrue, Some, None, Result, Ok, Err, OnErr, refl, sym, ◌∙◌, ap, subst, rules, arith, append_assoc}
 use Rattle.std.proofs.lemmas.List.{take-append-drop}
-use Rattle.rl_base.specs.Told.{Told, told_after, IsPrefixOf, TakesPart}
+use Rattle.rl_base.specs.Told.{Told, Grows, IsPrefixOf, TakesPart}
+use Rattle.rl_base.proofs.Growth.{Grows-nil, Grows-then}
 use Rattle.rl_value.specs.Plain.{Plain}
 use Rattle.rl_eval.specs.declared.form.Form.{Form}
 use Rattle.rl_eval.specs.declared.frame.Frame.{Frame}
@@ -25,21 +26,15 @@ pub none_left : (n : ℕ) → (0 < n → IsTrue false) → n ≡ 0
 none_left zero h = refl
 none_left (suc n) h = absurd (search (rules, h (omega arith)))
 
-told_after-nil : (t : Told) → told_after t [] ≡ t
-told_after-nil None = refl
-told_after-nil (Some xs) = ap Some (append-nil xs)
-
-told_after-append : (t : Told) (xs ys : List ℕ) → told_after (told_after t xs) ys ≡ told_after t (xs ++ ys)
-told_after-append None xs ys = refl
-told_after-append (Some bs) xs ys = ap Some (append_assoc bs xs ys)
-
 take-front : (xs ys : List ℕ) → take (length xs) (xs ++ ys) ≡ xs
 take-front [] ys = refl
 take-front (x ∷ xs) ys = ap (λ v. x ∷ v) (take-front xs ys)
 
 -- what was heard is a front of the piece, if what was said is
-takes_part : (t u : Told) (xs ys : List ℕ) → u ≡ told_after t xs → IsPrefixOf xs ys → TakesPart t ys u
-takes_part t u xs ys e h = (length xs, e ∙ ap (told_after t) (sym (ap (take (length xs)) (sym h.1) ∙ take-front xs h.0)))
+takes_part : (t u : Told) (xs ys : List ℕ) → Grows t xs u → IsPrefixOf xs ys → TakesPart t ys u
+takes_part t u xs ys e h =
+    let P : List ℕ → Type 0 = λ front. Grows t front u in
+    (length xs, subst P (sym (ap (take (length xs)) (sym h.1) ∙ take-front xs h.0)) e)
 
 finish-nil : (fs : List Frame) (ran : Ran) → fs ≡ [] → finish fs ran ≡ ran
 unfolding finish
@@ -66,12 +61,12 @@ at-extends (next.Put bytes v) n t = prefix-after t bytes
 -- Some bytes were printed and heard; and what comes of the frames from here, after these bytes, is the whole.
 pub record Stands (before now_told : Told) (fs : List Frame) (now : Next) (n : ℕ) (whole : Ran) : Type 0 where
   pub bytes : List ℕ
-  pub heard : now_told ≡ told_after before bytes
+  pub heard : Grows before bytes now_told
   pub same : finish fs (at now n bytes) ≡ whole
 
 pub started : (t : Told) (fs : List Frame) (f : Form) (n : ℕ) → fs ≡ [] → Stands t t fs (next.Enter f) n (eval f n [])
 unfolding at
-started t fs f n e = record { bytes = []; heard = sym (told_after-nil t); same = finish-nil fs (eval f n []) e }
+started t fs f n e = record { bytes = []; heard = Grows-nil t; same = finish-nil fs (eval f n []) e }
 
 -- what was printed so far is a front of what is printed
 pub so_far : (t u : Told) (fs : List Frame) (now : Next) (n : ℕ) (whole : Ran) → Stands t u fs now n whole → TakesPart t (printed whole) u
@@ -86,13 +81,13 @@ front_of t u w fs now piece v n whole s e h =
     let part : IsPrefixOf (s.bytes ++ take h.0 piece) (s.bytes ++ piece) =
     (drop h.0 piece, append_assoc s.bytes (take h.0 piece) (drop h.0 piece) ∙ ap (λ x. s.bytes ++ x) (take-append-drop h.0 piece)) in
     takes_part t w (s.bytes ++ take h.0 piece) (printed whole)
-    (h.1 ∙ (ap (λ x. told_after x (take h.0 piece)) s.heard ∙ told_after-append t s.bytes (take h.0 piece)))
+    (Grows-then t u w s.bytes (take h.0 piece) s.heard h.1)
     (rw (← same) (prefix-trans _ (s.bytes ++ piece) _ part (finish-extends fs (Done v n (s.bytes ++ piece)))))
 
 abbrev EndsCut : Ran → Told → Told → ℕ → Type 0
-EndsCut whole t u n = (whole ≡ Cut (printed whole)) × (u ≡ told_after t (printed whole)) × (n ≡ 0)
+EndsCut whole t u n = (whole ≡ Cut (printed whole)) × Grows t (printed whole) u × (n ≡ 0)
 
-ends_cut : (t u : Told) (bytes : List ℕ) (n : ℕ) (whole : Ran) → u ≡ told_after t bytes → Cut bytes ≡ whole → n ≡ 0 → EndsCut whole t u n
+ends_cut : (t u : Told) (bytes : List ℕ) (n : ℕ) (whole : Ran) → Grows t bytes u → Cut bytes ≡ whole → n ≡ 0 → EndsCut whole t u n
 ends_cut t u bytes n whole h e k = rw (← e) (refl, h, k)
 
 -- an entry without a unit
@@ -108,14 +103,14 @@ member_cut t u fs now m n k whole s e h l =
     ends_cut t u s.bytes k whole s.heard (sym (finish-cut fs s.bytes) ∙ (rw (e, h) at s.same)) (l ∙ h)
 
 -- the last form is left
-pub done : (t u : Told) (fs : List Frame) (now : Next) (v : Plain) (n : ℕ) (whole : Ran) → Stands t u fs now n whole → now ≡ next.Leave v → fs ≡ [] → (whole ≡ Done v n (printed whole)) × (u ≡ told_after t (printed whole))
+pub done : (t u : Told) (fs : List Frame) (now : Next) (v : Plain) (n : ℕ) (whole : Ran) → Stands t u fs now n whole → now ≡ next.Leave v → fs ≡ [] → (whole ≡ Done v n (printed whole)) × Grows t (printed whole) u
 unfolding at
 done t u fs now v n whole s e h =
     let here : Done v n s.bytes ≡ whole = sym (finish-nil fs (Done v n s.bytes) h) ∙ (rw e at s.same) in
     rw (← here) (refl, s.heard)
 
 -- a step does what the rule from here says
-pub goes_on : (t u : Told) (fs fs' : List Frame) (p : Rule) (n : ℕ) (now : Next) (whole : Ran) (bytes : List ℕ) → u ≡ told_after t bytes → finish fs (run_by eval p n bytes) ≡ whole → Goes fs p now fs' → Stands t u fs' now n whole
+pub goes_on : (t u : Told) (fs fs' : List Frame) (p : Rule) (n : ℕ) (now : Next) (whole : Ran) (bytes : List ℕ) → Grows t bytes u → finish fs (run_by eval p n bytes) ≡ whole → Goes fs p now fs' → Stands t u fs' now n whole
 goes_on t u fs fs' p n now whole bytes h i g = record { bytes = bytes; heard = h; same = g.same n bytes ∙ i }
 
 -- an entry takes a unit
@@ -140,10 +135,10 @@ resuming t u fs fs' new g now now' v n whole s e h goes =
     (sym (finish-push fs' g (Done v n s.bytes)) ∙ (ap (λ w. finish w (Done v n s.bytes)) (sym h) ∙ (rw e at s.same))) goes
 
 -- a piece is put
-pub putting : (t u w : Told) (fs : List Frame) (now : Next) (piece : List ℕ) (v : Plain) (n : ℕ) (whole : Ran) → Stands t u fs now n whole → now ≡ next.Put piece v → w ≡ told_after u piece → Stands t w fs (next.Leave v) n whole
+pub putting : (t u w : Told) (fs : List Frame) (now : Next) (piece : List ℕ) (v : Plain) (n : ℕ) (whole : Ran) → Stands t u fs now n whole → now ≡ next.Put piece v → Grows u piece w → Stands t w fs (next.Leave v) n whole
 unfolding at
 putting t u w fs now piece v n whole s e h = record {
   bytes = s.bytes ++ piece;
-  heard = h ∙ (ap (λ x. told_after x piece) s.heard ∙ told_after-append t s.bytes piece);
+  heard = Grows-then t u w s.bytes piece s.heard h;
   same = rw e at s.same;
 }

@@ -25,7 +25,8 @@ use Rattle.rl_syntax.specs.declared.pattern.PatternElement.{PatternElement}
 use Rattle.rl_syntax.specs.declared.ty.Ty.{Ty, out-Ty}
 use Rattle.rl_syntax.specs.declared.ty.Ty.TheOpen as t
 use Rattle.rl_syntax.specs.declared.ty.Field.{Field}
-use Rattle.rl_modules.specs.Load.{Fault, fault_at, start}
+use Rattle.rl_syntax.specs.Fault.{fault_at, start}
+use Rattle.rl_syntax.specs.declared.fault.Fault.{Fault}
 use Rattle.rl_eval.specs.declared.preparation.Unbuilt.{Unbuilt}
 use Rattle.rl_eval.specs.declared.preparation.Unbuilt.TheVariants as unbuilt
 use Rattle.rl_eval.specs.declared.preparation.PrepareEnd.{PrepareEnd}
@@ -166,7 +167,7 @@ IsBuilt meant (Err unbuilt.OutOfMemory) = Unit {0}
 
 abbrev pub Prepares : {A : Type 0} → Result A Fault → Result A PrepareEnd → Type 0
 Prepares meant (Ok x) = meant ≡ Ok x
-Prepares meant (Err (end.Fault path place code)) = meant ≡ Err (fault_at (path, place) code)
+Prepares meant (Err (end.Fault fault)) = meant ≡ Err fault
 Prepares meant (Err end.OutOfMemory) = Unit {0}
 
 -- what is not built in a module is M12 in its file

@@ -1,8 +1,10 @@
+//! The texts of literals.
+
 ghost use Rattle.std.specs.Prelude.{◌≡◌, ◌<◌, ◌^◌, [], ◌∷◌, ◌++◌, length, IfOk};
 ghost use Rattle.rl_value.specs.Plain.{text};
 ghost use Rattle.rl_eval.specs.Rules.{line_of};
 
-use rl_grammar::Name;
+use rl_base::Name;
 use rl_value::{BuildEnd, Value};
 use std::alloc::{AllocError, Global};
 use std::marker::Model;

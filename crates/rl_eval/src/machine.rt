@@ -12,7 +12,7 @@ use crate::frame::Next;
 use crate::program::Program;
 use crate::stack::Stack;
 use crate::steps::{begin, enter, resume};
-use rl_base::{Files, Meter, PutFailed, Sink};
+use rl_base::{Files, Meter, Name, PutFailed, Sink};
 use rl_value::Value;
 use std::alloc::{AllocError, Global};
 use std::marker::Model;
@@ -68,6 +68,7 @@ impl Machine {
         requires fresh { IsSome self.old }
         ensures used { self.new ≡ None }
         ensures answer { IfSome self.old (λ literals. IsEndOf (derivation literals meter.old) result (O.told out.old) (O.told out.new) meter.new) }
+        ensures asked { F.asked files.new ≡ F.asked files.old }
         ensures held { F.holds files.new ≡ F.holds files.old }
         ensures files_counted { F.faults files.old ≤ F.faults files.new }
         ensures file_fault { result ≡ End.FileFault → Rose (F.faults files.old) (F.faults files.new) }
@@ -90,7 +91,7 @@ impl Machine {
     }
 }
 
-/// How an evaluation ends.
+// How an evaluation ends.
 #[derive(Drop)]
 enum Ending {
     /// In a value.
@@ -99,7 +100,7 @@ enum Ending {
     Cut,
 }
 
-/// Why an evaluation stopped.
+// Why an evaluation stopped.
 #[derive(Clone, Copy, Debug, PartialEq, Eq)]
 enum Stop {
     Memory,
@@ -128,7 +129,7 @@ impl From<PutFailed> for Stop {
     }
 }
 
-/// Evaluates a form, each unit taken from the meter.
+// Evaluates a form, each unit taken from the meter.
 fn evaluate<O: Sink>(
     stack: &mut Stack,
     form: Form,
@@ -173,7 +174,6 @@ mod tests {
     use super::*;
     use crate::literal::Literal;
     use rl_base::{MemFiles, MemSink, Row};
-    use rl_grammar::Name;
     use std::test::Fail;
 
     #[test]

@@ -5,26 +5,24 @@ ghost use Rattle.std.specs.List.{list_any};
 ghost use Rattle.rl_syntax.specs.declared.expression.Exp.{out-Exp};
 ghost use Rattle.rl_syntax.specs.declared.pattern.Pattern.{out-Pattern};
 ghost use Rattle.rl_syntax.specs.declared.ty.Ty.{out-Ty};
-ghost use Rattle.rl_modules.specs.Load.{fault_at};
+ghost use Rattle.rl_syntax.specs.Fault.{fault_at};
 ghost use Rattle.rl_eval.specs.Preparation.{all_built, text_of, only_text, printed_in, statement_of, is_str, is_list_of_str, takes_words, parameters_built, is_void, statements_in, function_of, is_main, is_built_name, declaration_built, declarations_built, imports_io, module_declarations, others_built, prepared_of, IsBuilt, Prepares, Refuses};
 
 use crate::literal::Literal;
 use crate::program::Program;
-use rl_base::{Place, Row, Shared};
-use rl_grammar::Name;
-use rl_modules::Modules;
-use rl_syntax::{Body, Decl, Exp, Function, Module, Pattern, Stat, Ty};
+use rl_base::{Name, Place, Row, Shared};
+use rl_syntax::{Body, Decl, Exp, Fault, Function, Module, Modules, Pattern, Stat, Ty};
 use std::alloc::{AllocError, Global};
 
-/// A text of a literal has fewer bytes than this: 2^24.
+// A text of a literal has fewer bytes than this: 2^24.
 const TEXT_LIMIT: usize = 16_777_216;
 
 /// Why no program was made.
 #[derive(Debug, Drop)]
 pub enum PrepareEnd {
-    /// The first fault: the path of a file, the place in it, and the number of the code. M12: a form is not built yet, at its
-    /// first token. M29: all forms are built, and the first module has no `main`, at its start.
-    Fault { path: Name, place: Place, code: u8 },
+    /// The first fault. M12: a form is not built yet, at its first token. M29: all forms are built, and the first module has no
+    /// `main`, at its start.
+    Fault(Fault),
     OutOfMemory,
 }
 
@@ -58,7 +56,7 @@ impl From<AllocError> for Unbuilt {
     }
 }
 
-/// A string literal.
+// A string literal.
 fn text(expression: &Exp) -> Result<Literal, Unbuilt>
     ensures { IsBuilt (text_of expression.now) result }
 {
@@ -74,7 +72,7 @@ fn text(expression: &Exp) -> Result<Literal, Unbuilt>
     }
 }
 
-/// The one argument of a call at a place, where it is a string literal.
+// The one argument of a call at a place, where it is a string literal.
 fn only_text(place: Place, arguments: &[Shared<Exp>]) -> Result<Literal, Unbuilt>
     ensures { IsBuilt (only_text place arguments.now) result }
 {
@@ -84,7 +82,7 @@ fn only_text(place: Place, arguments: &[Shared<Exp>]) -> Result<Literal, Unbuilt
     }
 }
 
-/// The literal that a call at a place prints.
+// The literal that a call at a place prints.
 fn printed(visible: bool, place: Place, expression: &Exp) -> Result<Literal, Unbuilt>
     ensures { IsBuilt (printed_in visible place (out-Exp expression.now)) result }
 {
@@ -104,7 +102,7 @@ fn printed(visible: bool, place: Place, expression: &Exp) -> Result<Literal, Unb
     }
 }
 
-/// The literal that a statement prints.
+// The literal that a statement prints.
 fn statement(visible: bool, statement: &Stat) -> Result<Literal, Unbuilt>
     ensures { IsBuilt (statement_of visible statement.now) result }
 {
@@ -114,7 +112,7 @@ fn statement(visible: bool, statement: &Stat) -> Result<Literal, Unbuilt>
     }
 }
 
-/// The literals that statements print.
+// The literals that statements print.
 fn statements(alloc: Global, visible: bool, body: &[Shared<Stat>]) -> Result<Row<Literal>, Unbuilt>
     ensures { IsBuilt (all_built (statement_of visible) body.now) result }
 {
@@ -150,7 +148,7 @@ fn is_list_of_str(ty: &Ty) -> bool
     }
 }
 
-/// Whether a parameter is `list[str] x`.
+// Whether a parameter is `list[str] x`.
 fn takes_words(parameter: &Pattern) -> bool
     ensures { result ≡ takes_words (out-Pattern parameter.now) }
 {
@@ -160,7 +158,7 @@ fn takes_words(parameter: &Pattern) -> bool
     }
 }
 
-/// The parameters of `main`, which begins at a place.
+// The parameters of `main`, which begins at a place.
 fn parameters(place: Place, parameters: &[Shared<Pattern>]) -> Result<(), Unbuilt>
     ensures { IsBuilt (parameters_built place parameters.now) result }
 {
@@ -183,7 +181,7 @@ fn is_void(ty: &Ty) -> bool
     matches!(ty, Ty::Void { .. })
 }
 
-/// The literals that a function prints.
+// The literals that a function prints.
 fn function(alloc: Global, visible: bool, function: &Function) -> Result<Row<Literal>, Unbuilt>
     ensures { IsBuilt (function_of visible function.now) result }
 {
@@ -199,21 +197,21 @@ fn function(alloc: Global, visible: bool, function: &Function) -> Result<Row<Lit
     }
 }
 
-/// Whether a function of the first module, or of another, is the one that runs.
+// Whether a function of the first module, or of another, is the one that runs.
 fn is_main(first: bool, name: &str) -> bool
     ensures { result ≡ is_main first name.now }
 {
     first && name == "main"
 }
 
-/// Whether a function may have the name, where the one that runs was found before it or not.
+// Whether a function may have the name, where the one that runs was found before it or not.
 fn is_built_name(first: bool, is_found: bool, name: &str) -> bool
     ensures { (found : Option (List (List ℕ))) → is_some found ≡ is_found → result ≡ is_built_name first found name.now }
 {
     name != "println" && !(is_main(first, name) && is_found)
 }
 
-/// What is found behind a declaration: the literals that `main` prints.
+// What is found behind a declaration: the literals that `main` prints.
 fn declaration(
     alloc: Global,
     visible: bool,
@@ -255,14 +253,14 @@ fn imports_io(declaration: &Decl) -> bool
     }
 }
 
-/// Whether `println` is visible in a module.
+// Whether `println` is visible in a module.
 fn has_println(declarations: &[Decl]) -> bool
     ensures { result ≡ list_any imports_io declarations.now }
 {
     declarations.iter().any(imports_io)
 }
 
-/// What is found in a module.
+// What is found in a module.
 fn module_declarations(
     alloc: Global,
     first: bool,
@@ -281,17 +279,17 @@ fn module_declarations(
     Ok(found)
 }
 
-/// The fault of a code at a place in the file of a path.
+// The fault of a code at a place in the file of a path.
 fn fault(path: &Name, place: Place, code: u8) -> PrepareEnd
     ensures { Prepares {A = List (List ℕ)} (Err (fault_at (path.now, place) code)) (Err result) }
 {
     match path.share() {
-        Ok(path) => PrepareEnd::Fault { path, place, code },
+        Ok(path) => PrepareEnd::Fault(Fault { path, place, code }),
         Err(_) => PrepareEnd::OutOfMemory,
     }
 }
 
-/// Why a module was not taken.
+// Why a module was not taken.
 fn refusal(module: &Module, end: Unbuilt) -> PrepareEnd
     ensures { Refuses «module».now.path end result }
 {
@@ -301,7 +299,7 @@ fn refusal(module: &Module, end: Unbuilt) -> PrepareEnd
     }
 }
 
-/// The functions of the other modules, of which none runs.
+// The functions of the other modules, of which none runs.
 fn others(alloc: Global, modules: &[Module]) -> Result<(), PrepareEnd>
     ensures { Prepares (others_built modules.now) result }
 {
@@ -314,7 +312,7 @@ fn others(alloc: Global, modules: &[Module]) -> Result<(), PrepareEnd>
     Ok(())
 }
 
-/// Where a file begins.
+// Where a file begins.
 const START: Place = Place {
     module: 0,
     offset: 0,

@@ -13,7 +13,7 @@ use rl_base::Row;
 use rl_value::{BuildEnd, Value};
 use std::alloc::{AllocError, Global};
 
-/// The empty tuple.
+// The empty tuple.
 fn nothing(alloc: Global) -> Result<Value, AllocError>
     ensures { IfOk result (λ value. value ≡ empty_tuple) }
 {
@@ -24,7 +24,7 @@ fn nothing(alloc: Global) -> Result<Value, AllocError>
     }
 }
 
-/// The statements of a body from a number on.
+// The statements of a body from a number on.
 fn statements(stack: &mut Stack, literals: Row<Literal>, from: usize) -> Result<Next, AllocError>
     ensures { IfOk result (λ next. Goes stack.old.frames.items (body (drop from literals)) next stack.new.frames.items) }
 {

@@ -1,2 +1,3 @@
+-- How operations end.
 pub mod Answer
 pub mod Exceptions

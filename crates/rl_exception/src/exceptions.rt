@@ -184,7 +184,7 @@ fn thrown_with_text(alloc: Global, name: &str, message: &str) -> OpEnd
     }
 }
 
-/// The exception with this name and these fields.
+// The exception with this name and these fields.
 fn thrown_node(alloc: Global, name: &str, fields: Vec<Value>) -> OpEnd
     ensures { Ends (throwing (node name.now (plains_of fields.items))) result }
 {

@@ -1,9 +1,9 @@
 //! How an operation on values ends when it gives none: the exceptions that the language throws, and want of memory.
 #![tactic(auto)]
 
-pub mod building;
-pub mod exceptions;
-pub mod op_end;
+mod building;
+mod exceptions;
+mod op_end;
 
 pub use building::{
     fitted, fitted_list, fitted_location, fitted_map, fitted_node, fitted_set, fitted_text,

@@ -1,3 +1,5 @@
+//! How an operation on values ends.
+
 use rl_value::Value;
 use std::alloc::{AllocError, AllocFailed};
 

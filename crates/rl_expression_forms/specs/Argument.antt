@@ -8,8 +8,8 @@ use Rattle.rl_syntax.specs.declared.expression.Exp.{Exp}
 use Rattle.rl_syntax.specs.declared.expression.Exp.TheVariants as e
 use Rattle.rl_forms.specs.declared.form.Form.{Form}
 use Rattle.rl_forms.specs.declared.form.Form.TheVariants as f
-use Rattle.rl_forms.specs.Words.{given}
-use Rattle.rl_forms.specs.Names.{name_at}
+use Rattle.rl_forms.specs.Part.{given, part_at}
+use Rattle.rl_forms.specs.Names.{as_name}
 
 -- #start[S]
 abbrev pub start_sort : Place → Identifier → Identifier → Exp
@@ -21,7 +21,7 @@ argument_by place name None = e.TypeName place name
 
 -- #S, or #start[S]
 unfoldable pub argument_of : Place → List Form → Option Exp
-argument_of place parts = given (name_at parts 1) (λ name. Some (argument_by place name (name_at parts 3)))
+argument_of place parts = given (part_at as_name parts 1) (λ name. Some (argument_by place name (part_at as_name parts 3)))
 
 abbrev pub concrete : Place → Identifier → Place → List Piece → Concrete
 concrete place sort text_place pieces = record { place = place; sort = sort.name; sort_place = sort.place; text_place = text_place; pieces = pieces; number = 0 }
@@ -32,4 +32,4 @@ fragment_from place sort _ = None
 
 -- a fragment: its sort in parentheses, and its text
 unfoldable pub concrete_of : Place → List Form → Option Form
-concrete_of place parts = given (name_at parts 1) (λ sort. fragment_from place sort (slice_get parts 3))
+concrete_of place parts = given (part_at as_name parts 1) (λ sort. fragment_from place sort (slice_get parts 3))

@@ -1,5 +1,5 @@
 -- Chains of operators of one level, and operators before a value.
-use Rattle.std.specs.Prelude.{ℕ, ◌==◌, if◌then◌else◌, List, Option, Some, None}
+use Rattle.std.specs.Prelude.{ℕ, ◌==◌, if◌then◌else◌, List, Option, Some, None, slice_get}
 use Rattle.std.specs.List.{filter_map}
 use Rattle.rl_base.specs.declared.place.Place.{Place}
 use Rattle.rl_syntax.specs.declared.expression.Exp.{Exp}
@@ -11,8 +11,10 @@ use Rattle.rl_syntax.specs.declared.operator.ProductOperator.TheVariants as p
 use Rattle.rl_tokens.specs.declared.terminal.TheConstants.{PLUS, MINUS, AMPERSAND, STAR, SLASH, PERCENT, BANG}
 use Rattle.rl_forms.specs.declared.form.Form.{Form}
 use Rattle.rl_forms.specs.declared.form.Form.TheVariants as f
-use Rattle.rl_forms.specs.Words.{given, word_at}
-use Rattle.rl_forms.specs.Expressions.{as_expression, expression_at}
+use Rattle.rl_forms.specs.Part.{given, part_at, first_in}
+use Rattle.rl_forms.specs.Words.{word_at}
+use Rattle.rl_forms.specs.Expressions.{as_expression}
+use Rattle.rl_expression_forms.specs.Pair.{pairs_in}
 use Rattle.rl_expression_forms.specs.Suffix.{suffixed_of}
 
 -- a || b || ..
@@ -33,13 +35,16 @@ sum_operator word =
     else (if word == MINUS then Some s.Subtract
     else (if word == AMPERSAND then Some s.Intersect else None))
 
-abbrev pub as_sum_operator : Form → Option SumOperator
-as_sum_operator (f.Word place word) = sum_operator word
-as_sum_operator _ = None
+-- an operator of a sum with the part behind it
+unfoldable pub summand : List Form → Option (SumOperator × Exp)
+summand parts =
+    given (word_at parts 0) (λ word.
+    given (sum_operator word) (λ operator.
+    given (part_at as_expression parts 1) (λ value. Some (operator, value))))
 
 -- a + b - c ..
-abbrev pub sum_of : Place → List Form → Exp
-sum_of place parts = e.Sum place (filter_map as_expression parts) (filter_map as_sum_operator parts)
+abbrev pub sum_of : Place → List Form → Option Exp
+sum_of place parts = given (first_in as_expression parts) (λ first. Some (e.Sum place first (pairs_in summand parts)))
 
 abbrev pub product_operator : ℕ → Option ProductOperator
 product_operator word =
@@ -47,13 +52,16 @@ product_operator word =
     else (if word == SLASH then Some p.Divide
     else (if word == PERCENT then Some p.Remainder else None))
 
-abbrev pub as_product_operator : Form → Option ProductOperator
-as_product_operator (f.Word place word) = product_operator word
-as_product_operator _ = None
+-- an operator of a product with the part behind it
+unfoldable pub factor : List Form → Option (ProductOperator × Exp)
+factor parts =
+    given (word_at parts 0) (λ word.
+    given (product_operator word) (λ operator.
+    given (part_at as_expression parts 1) (λ value. Some (operator, value))))
 
 -- a * b / c ..
-abbrev pub product_of : Place → List Form → Exp
-product_of place parts = e.Product place (filter_map as_expression parts) (filter_map as_product_operator parts)
+abbrev pub product_of : Place → List Form → Option Exp
+product_of place parts = given (first_in as_expression parts) (λ first. Some (e.Product place first (pairs_in factor parts)))
 
 -- !e or -e
 abbrev pub prefixed : Place → ℕ → Exp → Option Exp
@@ -61,10 +69,10 @@ prefixed place word value =
     if word == BANG then Some (e.Not place value)
     else (if word == MINUS then Some (e.Negative place value) else None)
 
-abbrev pub unary_from : Place → List Form → Option ℕ → Option Exp
-unary_from place parts (Some word) = given (expression_at parts 1) (λ value. prefixed place word value)
-unary_from place parts None = suffixed_of place parts
+abbrev pub unary_from : Place → List Form → Option Form → Option Exp
+unary_from place parts (Some (f.Word at word)) = given (part_at as_expression parts 1) (λ value. prefixed place word value)
+unary_from place parts _ = suffixed_of place parts
 
 -- an operator before a value, or suffixes behind one
 unfoldable pub unary_of : Place → List Form → Option Exp
-unary_of place parts = unary_from place parts (word_at parts 0)
+unary_of place parts = unary_from place parts (slice_get parts 0)

@@ -1,3 +1,5 @@
+-- What phrases of expressions say.
+pub mod Pair
 pub mod Operation
 pub mod Suffix
 pub mod Chain

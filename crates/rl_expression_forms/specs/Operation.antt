@@ -8,10 +8,11 @@ use Rattle.rl_syntax.specs.declared.operator.Comparison.TheVariants as c
 use Rattle.rl_syntax.specs.declared.pattern.Pattern.{Pattern}
 use Rattle.rl_tokens.specs.declared.terminal.TheConstants.{IMPLIES, EQUIVALENT, EQUAL, NOT_EQUAL, LESS_OR_EQUAL, GREATER_OR_EQUAL, LESS, GREATER, IN, NOTIN, MATCHES, MATCHES_NOT, ENUMERATES}
 use Rattle.rl_forms.specs.declared.form.Form.{Form}
-use Rattle.rl_forms.specs.Words.{given, word_at}
-use Rattle.rl_forms.specs.Names.{name_at}
-use Rattle.rl_forms.specs.Patterns.{pattern_at}
-use Rattle.rl_forms.specs.Expressions.{expression_at}
+use Rattle.rl_forms.specs.Part.{given, part_at}
+use Rattle.rl_forms.specs.Words.{word_at}
+use Rattle.rl_forms.specs.Names.{as_name}
+use Rattle.rl_forms.specs.Patterns.{as_pattern}
+use Rattle.rl_forms.specs.Expressions.{as_expression}
 
 abbrev pub conditional : Place → Exp → Exp → Option Exp → Exp
 conditional place first second (Some third) = e.Conditional place first second third
@@ -20,9 +21,9 @@ conditional place first second None = e.Fallback place first second
 -- c ? a : b, or a ? b
 unfoldable pub conditional_of : Place → List Form → Option Exp
 conditional_of place parts =
-    given (expression_at parts 0) (λ first.
-    given (expression_at parts 2) (λ second.
-    Some (conditional place first second (expression_at parts 4))))
+    given (part_at as_expression parts 0) (λ first.
+    given (part_at as_expression parts 2) (λ second.
+    Some (conditional place first second (part_at as_expression parts 4))))
 
 abbrev pub comparison : ℕ → Option Comparison
 comparison word =
@@ -48,14 +49,14 @@ binary place word left right = binary_by (comparison word) place word left right
 -- a op b, where the operators do not chain
 unfoldable pub binary_of : Place → List Form → Option Exp
 binary_of place parts =
-    given (expression_at parts 0) (λ left.
+    given (part_at as_expression parts 0) (λ left.
     given (word_at parts 1) (λ word.
-    given (expression_at parts 2) (λ right. binary place word left right)))
+    given (part_at as_expression parts 2) (λ right. binary place word left right)))
 
 -- e is name
 unfoldable pub is_of : Place → List Form → Option Exp
 is_of place parts =
-    given (expression_at parts 0) (λ value. given (name_at parts 2) (λ name. Some (e.Is place value name)))
+    given (part_at as_expression parts 0) (λ value. given (part_at as_name parts 2) (λ name. Some (e.Is place value name)))
 
 -- what the word asks of the pattern and the value
 abbrev pub matched : Place → ℕ → Pattern → Exp → Option Exp
@@ -67,6 +68,6 @@ matched place word pattern value =
 -- p := e, p !:= e or p <- e
 unfoldable pub match_of : Place → List Form → Option Exp
 match_of place parts =
-    given (pattern_at parts 0) (λ pattern.
+    given (part_at as_pattern parts 0) (λ pattern.
     given (word_at parts 1) (λ word.
-    given (expression_at parts 2) (λ value. matched place word pattern value)))
+    given (part_at as_expression parts 2) (λ value. matched place word pattern value)))

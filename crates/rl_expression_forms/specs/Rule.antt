@@ -1,12 +1,12 @@
 -- What a phrase of expressions says, by its rule.
 use Rattle.std.specs.Prelude.{ℕ, ◌==◌, ◌||◌, if◌then◌else◌, List, Option, Some, None}
-use Rattle.std.specs.Option.{option_map}
 use Rattle.rl_base.specs.declared.place.Place.{Place}
 use Rattle.rl_syntax.specs.declared.expression.Exp.{Exp}
-use Rattle.rl_syntax.specs.declared.rules.TheConstants.{EXPRESSION, IMPLICATION, EQUALITY, COMPARISON, DISJUNCTION, CONJUNCTION, MATCH, SUM, PRODUCT, COMPOSITION, UNARY, PRIMARY, ARGUMENT, VISIT_EXPRESSION, PARENTHESIZED, LIST_EXPRESSION, SET_EXPRESSION, ELEMENT, SUFFIX, SUBSCRIPT, VISIT_STRATEGY, CONCRETE, CONDITIONS}
+use Rattle.rl_phrase_table.specs.declared.rules.TheConstants.{EXPRESSION, IMPLICATION, EQUALITY, COMPARISON, DISJUNCTION, CONJUNCTION, MATCH, SUM, PRODUCT, COMPOSITION, UNARY, PRIMARY, ARGUMENT, VISIT_EXPRESSION, PARENTHESIZED, LIST_EXPRESSION, SET_EXPRESSION, ELEMENT, SUFFIX, SUBSCRIPT, VISIT_STRATEGY, CONCRETE, CONDITIONS}
 use Rattle.rl_tokens.specs.declared.terminal.TheConstants.{IS}
 use Rattle.rl_forms.specs.declared.form.Form.{Form}
 use Rattle.rl_forms.specs.declared.form.Form.TheVariants as f
+use Rattle.rl_forms.specs.Part.{given, or_else}
 use Rattle.rl_forms.specs.Words.{has_word}
 use Rattle.rl_expression_forms.specs.Operation.{conditional_of, binary_of, is_of, match_of}
 use Rattle.rl_expression_forms.specs.Chain.{disjunction_of, conjunction_of, composition_of, sum_of, product_of, unary_of}
@@ -30,8 +30,8 @@ operation_of rule place parts =
     else (if rule == DISJUNCTION then Some (disjunction_of place parts)
     else (if rule == CONJUNCTION then Some (conjunction_of place parts)
     else (if rule == MATCH then match_of place parts
-    else (if rule == SUM then Some (sum_of place parts)
-    else (if rule == PRODUCT then Some (product_of place parts)
+    else (if rule == SUM then sum_of place parts
+    else (if rule == PRODUCT then product_of place parts
     else (if rule == COMPOSITION then Some (composition_of place parts)
     else (if rule == UNARY then unary_of place parts else None)))))))))
 
@@ -49,11 +49,15 @@ value_of rule place parts =
 -- what is no expression
 unfoldable pub other_form : ℕ → Place → List Form → Option Form
 other_form rule place parts =
-    if rule == SUFFIX then option_map f.Suffix (suffix_of place parts)
+    if rule == SUFFIX then given (suffix_of place parts) (λ suffix. Some (f.Suffix suffix))
     else (if rule == SUBSCRIPT then Some (bounds_of parts)
     else (if rule == VISIT_STRATEGY then strategy_of parts
     else (if rule == CONCRETE then concrete_of place parts
     else (if rule == CONDITIONS then Some (conditions_of parts) else None))))
+
+-- with an operator or without one
+abbrev pub expression_of : ℕ → Place → List Form → Option Exp
+expression_of rule place parts = or_else (operation_of rule place parts) (value_of rule place parts)
 
 -- an expression, or another form
 abbrev pub expression_or : Option Exp → Option Form → Option Form
@@ -61,5 +65,4 @@ expression_or (Some expression) other = Some (f.Expression expression)
 expression_or None other = other
 
 unfoldable pub expression_form : ℕ → Place → List Form → Option Form
-expression_form rule place parts =
-    expression_or (operation_of rule place parts) (expression_or (value_of rule place parts) (other_form rule place parts))
+expression_form rule place parts = expression_or (expression_of rule place parts) (other_form rule place parts)

@@ -1,7 +1,6 @@
 -- Visits.
-use Rattle.std.specs.Prelude.{ℕ, ◌==◌, if◌then◌else◌, List, Option, Some, None, slice_get}
+use Rattle.std.specs.Prelude.{ℕ, ◌==◌, if◌then◌else◌, List, Option, Some, None, unwrap_or}
 use Rattle.std.specs.List.{filter_map}
-use Rattle.std.specs.Option.{option_map}
 use Rattle.rl_base.specs.declared.place.Place.{Place}
 use Rattle.rl_syntax.specs.Expression.{place_of_expression}
 use Rattle.rl_syntax.specs.declared.expression.Exp.{Exp}
@@ -12,8 +11,9 @@ use Rattle.rl_syntax.specs.declared.ty.Ty.TheVariants as t
 use Rattle.rl_tokens.specs.declared.terminal.TheConstants.{INNERMOST, OUTERMOST, TOP_DOWN, TOP_DOWN_BREAK, BOTTOM_UP, BOTTOM_UP_BREAK}
 use Rattle.rl_forms.specs.declared.form.Form.{Form}
 use Rattle.rl_forms.specs.declared.form.Form.TheVariants as f
-use Rattle.rl_forms.specs.Words.{given, word_at}
-use Rattle.rl_forms.specs.Expressions.{as_expression}
+use Rattle.rl_forms.specs.Part.{given, part_at, first_in}
+use Rattle.rl_forms.specs.Words.{word_at}
+use Rattle.rl_forms.specs.Expressions.{as_expression, as_strategy}
 use Rattle.rl_forms.specs.Statements.{as_case}
 
 abbrev pub strategy : ℕ → Option Strategy
@@ -27,15 +27,11 @@ strategy word =
 
 -- the strategy that is one word
 unfoldable pub strategy_of : List Form → Option Form
-strategy_of parts = given (word_at parts 0) (λ word. option_map f.Strategy (strategy word))
-
-abbrev pub strategy_from : Option Form → Strategy
-strategy_from (Some (f.Strategy written)) = written
-strategy_from _ = s.BottomUp
+strategy_of parts = given (word_at parts 0) (λ word. given (strategy word) (λ found. Some (f.Strategy found)))
 
 -- the strategy that is written, or else bottom-up
 abbrev pub written_strategy : List Form → Strategy
-written_strategy parts = strategy_from (slice_get parts 0)
+written_strategy parts = unwrap_or (part_at as_strategy parts 0) s.BottomUp
 
 -- the type of the subject is not known yet
 abbrev pub visit : Place → Exp → List Form → Exp
@@ -43,4 +39,4 @@ visit place subject parts = e.Visit place (written_strategy parts) subject (filt
 
 -- strategy visit (e) { cases }
 unfoldable pub visit_of : Place → List Form → Option Exp
-visit_of place parts = option_map (λ subject. visit place subject parts) (slice_get (filter_map as_expression parts) 0)
+visit_of place parts = given (first_in as_expression parts) (λ subject. Some (visit place subject parts))

@@ -1,23 +1,23 @@
 //! Chains of operators of one level, and operators before a value.
 
 ghost use Rattle.std.specs.Prelude.{◌≡◌, IfOk};
-ghost use Rattle.std.specs.List.{filter_map};
-ghost use Rattle.rl_expression_forms.specs.Chain.{as_product_operator, as_sum_operator, composition_of, conjunction_of, disjunction_of, prefixed, product_of, product_operator, sum_of, sum_operator, unary_of};
+ghost use Rattle.rl_forms.specs.Part.{Gives};
+ghost use Rattle.rl_expression_forms.specs.Chain.{composition_of, conjunction_of, disjunction_of, prefixed, product_of, product_operator, sum_of, sum_operator, unary_of};
 
+use crate::pair::{Pair, pairs_in};
 use crate::suffix::suffixed;
-use rl_base::{Place, Row, Shared};
-use rl_forms::Form;
-use rl_forms::expressions::{expression_at, expressions};
+use rl_base::{Place, Shared};
 use rl_forms::words::word_at;
-use rl_phrase::terminal;
+use rl_forms::{Form, FormError, first_in, part_at, row_in};
 use rl_syntax::{Exp, ProductOperator, SumOperator};
+use rl_tokens::terminal;
 use std::alloc::{AllocError, Global};
 
 /// `a || b || ..`
 pub(crate) fn disjunction(alloc: Global, place: Place, parts: &[Form]) -> Result<Exp, AllocError>
     ensures { IfOk result (λ it. it ≡ disjunction_of place parts.now) }
 {
-    let parts = expressions(alloc, parts)?;
+    let parts = row_in(alloc, parts)?;
     Ok(Exp::Disjunction { place, parts })
 }
 
@@ -25,7 +25,7 @@ pub(crate) fn disjunction(alloc: Global, place: Place, parts: &[Form]) -> Result
 pub(crate) fn conjunction(alloc: Global, place: Place, parts: &[Form]) -> Result<Exp, AllocError>
     ensures { IfOk result (λ it. it ≡ conjunction_of place parts.now) }
 {
-    let parts = expressions(alloc, parts)?;
+    let parts = row_in(alloc, parts)?;
     Ok(Exp::Conjunction { place, parts })
 }
 
@@ -33,123 +33,102 @@ pub(crate) fn conjunction(alloc: Global, place: Place, parts: &[Form]) -> Result
 pub(crate) fn composition(alloc: Global, place: Place, parts: &[Form]) -> Result<Exp, AllocError>
     ensures { IfOk result (λ it. it ≡ composition_of place parts.now) }
 {
-    let parts = expressions(alloc, parts)?;
+    let parts = row_in(alloc, parts)?;
     Ok(Exp::Composition { place, parts })
 }
 
-fn sum_operator(word: u32) -> Option<SumOperator>
-    ensures { result ≡ sum_operator word }
+fn sum_operator(word: u32) -> Result<SumOperator, FormError>
+    ensures { Gives (sum_operator word) result }
 {
     match word {
-        terminal::PLUS => Some(SumOperator::Add),
-        terminal::MINUS => Some(SumOperator::Subtract),
-        terminal::AMPERSAND => Some(SumOperator::Intersect),
-        _ => None,
+        terminal::PLUS => Ok(SumOperator::Add),
+        terminal::MINUS => Ok(SumOperator::Subtract),
+        terminal::AMPERSAND => Ok(SumOperator::Intersect),
+        _ => Err(FormError::Missing),
     }
 }
 
-fn as_sum_operator(part: &Form) -> Option<SumOperator>
-    ensures { result ≡ as_sum_operator part.now }
-{
-    match part {
-        Form::Word(_, word) => sum_operator(*word),
-        _ => None,
-    }
-}
+/// An operator of a sum with the part behind it.
+impl Pair for (SumOperator, Shared<Exp>) {
+    ghost use Rattle.rl_forms.specs.Part.{Gives};
+    ghost use Rattle.rl_expression_forms.specs.Chain.{summand};
 
-// The operators among the parts.
-fn sum_operators(alloc: Global, parts: &[Form]) -> Result<Row<SumOperator>, AllocError>
-    ensures { IfOk result (λ row. row ≡ filter_map as_sum_operator parts.now) }
-{
-    let mut found = Vec::new(alloc);
-    for part in parts {
-        if let Some(operator) = as_sum_operator(part) {
-            found.push(operator)?;
-        }
+    ghost of_parts = { summand };
+
+    #[tactic(auto, unfolding(crate::specs::Chain::summand))]
+    fn from_parts(alloc: Global, parts: &[Form]) -> Result<(SumOperator, Shared<Exp>), FormError> {
+        let operator = sum_operator(word_at(parts, 0)?)?;
+        Ok((operator, part_at(alloc, parts, 1)?))
     }
-    Row::from_vec(alloc, found)
 }
 
 /// `a + b - c ..`
-pub(crate) fn sum(alloc: Global, place: Place, parts: &[Form]) -> Result<Exp, AllocError>
-    ensures { IfOk result (λ it. it ≡ sum_of place parts.now) }
+pub(crate) fn sum(alloc: Global, place: Place, parts: &[Form]) -> Result<Exp, FormError>
+    ensures { Gives (sum_of place parts.now) result }
 {
-    let operators = sum_operators(alloc, parts)?;
-    let parts = expressions(alloc, parts)?;
     Ok(Exp::Sum {
         place,
-        parts,
-        operators,
+        first: first_in(alloc, parts)?,
+        rest: pairs_in(alloc, parts)?,
     })
 }
 
-fn product_operator(word: u32) -> Option<ProductOperator>
-    ensures { result ≡ product_operator word }
+fn product_operator(word: u32) -> Result<ProductOperator, FormError>
+    ensures { Gives (product_operator word) result }
 {
     match word {
-        terminal::STAR => Some(ProductOperator::Multiply),
-        terminal::SLASH => Some(ProductOperator::Divide),
-        terminal::PERCENT => Some(ProductOperator::Remainder),
-        _ => None,
+        terminal::STAR => Ok(ProductOperator::Multiply),
+        terminal::SLASH => Ok(ProductOperator::Divide),
+        terminal::PERCENT => Ok(ProductOperator::Remainder),
+        _ => Err(FormError::Missing),
     }
 }
 
-fn as_product_operator(part: &Form) -> Option<ProductOperator>
-    ensures { result ≡ as_product_operator part.now }
-{
-    match part {
-        Form::Word(_, word) => product_operator(*word),
-        _ => None,
-    }
-}
+/// An operator of a product with the part behind it.
+impl Pair for (ProductOperator, Shared<Exp>) {
+    ghost use Rattle.rl_expression_forms.specs.Chain.{factor};
 
-// The operators among the parts.
-fn product_operators(alloc: Global, parts: &[Form]) -> Result<Row<ProductOperator>, AllocError>
-    ensures { IfOk result (λ row. row ≡ filter_map as_product_operator parts.now) }
-{
-    let mut found = Vec::new(alloc);
-    for part in parts {
-        if let Some(operator) = as_product_operator(part) {
-            found.push(operator)?;
-        }
+    ghost of_parts = { factor };
+
+    #[tactic(auto, unfolding(crate::specs::Chain::factor))]
+    fn from_parts(
+        alloc: Global,
+        parts: &[Form],
+    ) -> Result<(ProductOperator, Shared<Exp>), FormError> {
+        let operator = product_operator(word_at(parts, 0)?)?;
+        Ok((operator, part_at(alloc, parts, 1)?))
     }
-    Row::from_vec(alloc, found)
 }
 
 /// `a * b / c ..`
-pub(crate) fn product(alloc: Global, place: Place, parts: &[Form]) -> Result<Exp, AllocError>
-    ensures { IfOk result (λ it. it ≡ product_of place parts.now) }
+pub(crate) fn product(alloc: Global, place: Place, parts: &[Form]) -> Result<Exp, FormError>
+    ensures { Gives (product_of place parts.now) result }
 {
-    let operators = product_operators(alloc, parts)?;
-    let parts = expressions(alloc, parts)?;
     Ok(Exp::Product {
         place,
-        parts,
-        operators,
+        first: first_in(alloc, parts)?,
+        rest: pairs_in(alloc, parts)?,
     })
 }
 
 // `!e` or `-e`
-fn prefixed(place: Place, word: u32, value: Shared<Exp>) -> Option<Exp>
-    ensures { result ≡ prefixed place word value }
+fn prefixed(place: Place, word: u32, value: Shared<Exp>) -> Result<Exp, FormError>
+    ensures { Gives (prefixed place word value) result }
 {
     match word {
-        terminal::BANG => Some(Exp::Not { place, value }),
-        terminal::MINUS => Some(Exp::Negative { place, value }),
-        _ => None,
+        terminal::BANG => Ok(Exp::Not { place, value }),
+        terminal::MINUS => Ok(Exp::Negative { place, value }),
+        _ => Err(FormError::Missing),
     }
 }
 
 /// An operator before a value, or suffixes behind one.
 #[tactic(auto, unfolding(crate::specs::Chain::unary_of))]
-pub(crate) fn unary(alloc: Global, place: Place, parts: &[Form]) -> Result<Option<Exp>, AllocError>
-    ensures { IfOk result (λ it. it ≡ unary_of place parts.now) }
+pub(crate) fn unary(alloc: Global, place: Place, parts: &[Form]) -> Result<Exp, FormError>
+    ensures { Gives (unary_of place parts.now) result }
 {
-    let Some(word) = word_at(parts, 0) else {
-        return suffixed(alloc, place, parts);
-    };
-    let Some(value) = expression_at(alloc, parts, 1)? else {
-        return Ok(None);
-    };
-    Ok(prefixed(place, word, value))
+    match parts.first() {
+        Some(Form::Word(_, word)) => prefixed(place, *word, part_at(alloc, parts, 1)?),
+        _ => suffixed(alloc, place, parts),
+    }
 }

@@ -6,6 +6,7 @@ mod chain;
 mod collection;
 mod literal;
 mod operation;
+mod pair;
 mod parenthesized;
 mod rule;
 mod suffix;

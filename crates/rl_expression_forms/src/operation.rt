@@ -1,45 +1,35 @@
 //! Operations on two or three parts.
 
-ghost use Rattle.std.specs.Prelude.{◌≡◌, IfOk};
+ghost use Rattle.std.specs.Prelude.{◌≡◌};
+ghost use Rattle.rl_forms.specs.Part.{Gives};
 ghost use Rattle.rl_expression_forms.specs.Operation.{binary, binary_of, comparison, conditional_of, is_of, match_of, matched};
 
 use rl_base::{Place, Shared};
-use rl_forms::Form;
-use rl_forms::expressions::expression_at;
-use rl_forms::names::{name_at, share_identifier};
-use rl_forms::patterns::pattern_at;
 use rl_forms::words::word_at;
-use rl_phrase::terminal;
+use rl_forms::{Form, FormError, optional_at, part_at};
 use rl_syntax::{Comparison, Exp, Pattern};
-use std::alloc::{AllocError, Global};
+use rl_tokens::terminal;
+use std::alloc::Global;
 
 /// `c ? a : b`, or `a ? b`
 #[tactic(auto, unfolding(crate::specs::Operation::conditional_of))]
-pub(crate) fn conditional(
-    alloc: Global,
-    place: Place,
-    parts: &[Form],
-) -> Result<Option<Exp>, AllocError>
-    ensures { IfOk result (λ it. it ≡ conditional_of place parts.now) }
+pub(crate) fn conditional(alloc: Global, place: Place, parts: &[Form]) -> Result<Exp, FormError>
+    ensures { Gives (conditional_of place parts.now) result }
 {
-    let Some(first) = expression_at(alloc, parts, 0)? else {
-        return Ok(None);
-    };
-    let Some(second) = expression_at(alloc, parts, 2)? else {
-        return Ok(None);
-    };
-    match expression_at(alloc, parts, 4)? {
-        Some(third) => Ok(Some(Exp::Conditional {
+    let first = part_at(alloc, parts, 0)?;
+    let second = part_at(alloc, parts, 2)?;
+    match optional_at(alloc, parts, 4)? {
+        Some(third) => Ok(Exp::Conditional {
             place,
             condition: first,
             then: second,
             otherwise: third,
-        })),
-        None => Ok(Some(Exp::Fallback {
+        }),
+        None => Ok(Exp::Fallback {
             place,
             value: first,
             otherwise: second,
-        })),
+        }),
     }
 }
 
@@ -58,11 +48,11 @@ fn comparison(word: u32) -> Option<Comparison>
 }
 
 // The operation of the word on both sides.
-fn binary(place: Place, word: u32, left: Shared<Exp>, right: Shared<Exp>) -> Option<Exp>
-    ensures { result ≡ binary place word left right }
+fn binary(place: Place, word: u32, left: Shared<Exp>, right: Shared<Exp>) -> Result<Exp, FormError>
+    ensures { Gives (binary place word left right) result }
 {
     if let Some(comparison) = comparison(word) {
-        return Some(Exp::Compared {
+        return Ok(Exp::Compared {
             place,
             left,
             comparison,
@@ -70,11 +60,11 @@ fn binary(place: Place, word: u32, left: Shared<Exp>, right: Shared<Exp>) -> Opt
         });
     }
     match word {
-        terminal::IMPLIES => Some(Exp::Implication { place, left, right }),
-        terminal::EQUIVALENT => Some(Exp::Equivalence { place, left, right }),
-        terminal::EQUAL => Some(Exp::Equal { place, left, right }),
-        terminal::NOT_EQUAL => Some(Exp::NotEqual { place, left, right }),
-        _ => None,
+        terminal::IMPLIES => Ok(Exp::Implication { place, left, right }),
+        terminal::EQUIVALENT => Ok(Exp::Equivalence { place, left, right }),
+        terminal::EQUAL => Ok(Exp::Equal { place, left, right }),
+        terminal::NOT_EQUAL => Ok(Exp::NotEqual { place, left, right }),
+        _ => Err(FormError::Missing),
     }
 }
 
@@ -84,81 +74,63 @@ pub(crate) fn binary_operation(
     alloc: Global,
     place: Place,
     parts: &[Form],
-) -> Result<Option<Exp>, AllocError>
-    ensures { IfOk result (λ it. it ≡ binary_of place parts.now) }
+) -> Result<Exp, FormError>
+    ensures { Gives (binary_of place parts.now) result }
 {
-    let Some(left) = expression_at(alloc, parts, 0)? else {
-        return Ok(None);
-    };
-    let Some(word) = word_at(parts, 1) else {
-        return Ok(None);
-    };
-    let Some(right) = expression_at(alloc, parts, 2)? else {
-        return Ok(None);
-    };
-    Ok(binary(place, word, left, right))
+    let left = part_at(alloc, parts, 0)?;
+    let word = word_at(parts, 1)?;
+    let right = part_at(alloc, parts, 2)?;
+    binary(place, word, left, right)
 }
 
 /// `e is name`
 #[tactic(auto, unfolding(crate::specs::Operation::is_of))]
-pub(crate) fn name_test(
-    alloc: Global,
-    place: Place,
-    parts: &[Form],
-) -> Result<Option<Exp>, AllocError>
-    ensures { IfOk result (λ it. it ≡ is_of place parts.now) }
+pub(crate) fn name_test(alloc: Global, place: Place, parts: &[Form]) -> Result<Exp, FormError>
+    ensures { Gives (is_of place parts.now) result }
 {
-    let Some(value) = expression_at(alloc, parts, 0)? else {
-        return Ok(None);
-    };
-    let Some(name) = name_at(parts, 2) else {
-        return Ok(None);
-    };
-    let name = share_identifier(name)?;
-    Ok(Some(Exp::Is { place, value, name }))
+    Ok(Exp::Is {
+        place,
+        value: part_at(alloc, parts, 0)?,
+        name: part_at(alloc, parts, 2)?,
+    })
 }
 
 // What the word asks of the pattern and the value.
-fn matched(place: Place, word: u32, pattern: Shared<Pattern>, value: Shared<Exp>) -> Option<Exp>
-    ensures { result ≡ matched place word pattern value }
+fn matched(
+    place: Place,
+    word: u32,
+    pattern: Shared<Pattern>,
+    value: Shared<Exp>,
+) -> Result<Exp, FormError>
+    ensures { Gives (matched place word pattern value) result }
 {
     match word {
-        terminal::MATCHES => Some(Exp::Match {
+        terminal::MATCHES => Ok(Exp::Match {
             place,
             pattern,
             value,
         }),
-        terminal::MATCHES_NOT => Some(Exp::NoMatch {
+        terminal::MATCHES_NOT => Ok(Exp::NoMatch {
             place,
             pattern,
             value,
         }),
-        terminal::ENUMERATES => Some(Exp::Enumeration {
+        terminal::ENUMERATES => Ok(Exp::Enumeration {
             place,
             pattern,
             collection: value,
         }),
-        _ => None,
+        _ => Err(FormError::Missing),
     }
 }
 
 /// `p := e`, `p !:= e` or `p <- e`
 #[tactic(auto, unfolding(crate::specs::Operation::match_of))]
-pub(crate) fn matching(
-    alloc: Global,
-    place: Place,
-    parts: &[Form],
-) -> Result<Option<Exp>, AllocError>
-    ensures { IfOk result (λ it. it ≡ match_of place parts.now) }
+pub(crate) fn matching(alloc: Global, place: Place, parts: &[Form]) -> Result<Exp, FormError>
+    ensures { Gives (match_of place parts.now) result }
 {
-    let Some(pattern) = pattern_at(alloc, parts, 0)? else {
-        return Ok(None);
-    };
-    let Some(word) = word_at(parts, 1) else {
-        return Ok(None);
-    };
-    let Some(value) = expression_at(alloc, parts, 2)? else {
-        return Ok(None);
-    };
-    Ok(matched(place, word, pattern, value))
+    let pattern = part_at(alloc, parts, 0)?;
+    let word = word_at(parts, 1)?;
+    let value = part_at(alloc, parts, 2)?;
+    matched(place, word, pattern, value)
 }

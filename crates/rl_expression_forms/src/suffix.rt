@@ -1,17 +1,14 @@
 //! What stands behind a value.
 
 ghost use Rattle.std.specs.Prelude.{◌≡◌, IfOk};
-ghost use Rattle.std.specs.List.{filter_map};
-ghost use Rattle.std.specs.Option.{option_copied};
-ghost use Rattle.rl_expression_forms.specs.Suffix.{as_suffix, bounds_of, closure, field_of, indexed, slice, subscript, subscript_of, suffix_of, suffixed_of};
+ghost use Rattle.rl_forms.specs.Part.{Gives};
+ghost use Rattle.rl_expression_forms.specs.Suffix.{bounds_of, closure, field_of, slice, subscript_of, suffix_of, suffixed_of};
 
-use rl_base::{Place, Row, Shared};
-use rl_forms::Form;
-use rl_forms::expressions::{as_expression, expression_at};
-use rl_forms::names::{name_at, share_identifier};
+use rl_base::{Place, Shared};
 use rl_forms::words::{behind_word, word_at};
-use rl_phrase::terminal;
+use rl_forms::{Form, FormError, optional_at, part_at, row_in};
 use rl_syntax::{Exp, Suffix};
+use rl_tokens::terminal;
 use std::alloc::{AllocError, Global};
 
 /// What stands on both sides of `..` in a slice.
@@ -19,8 +16,8 @@ use std::alloc::{AllocError, Global};
 pub(crate) fn bounds(alloc: Global, parts: &[Form]) -> Result<Form, AllocError>
     ensures { IfOk result (λ form. form ≡ bounds_of parts.now) }
 {
-    let from = expression_at(alloc, parts, 0)?;
-    let to = expression_at(alloc, behind_word(terminal::DOTS, parts), 0)?;
+    let from = optional_at(alloc, parts, 0)?;
+    let to = optional_at(alloc, behind_word(terminal::DOTS, parts), 0)?;
     Ok(Form::Bounds(from, to))
 }
 
@@ -33,154 +30,75 @@ fn share_bound(bound: &Option<Shared<Exp>>) -> Result<Option<Shared<Exp>>, Alloc
     }
 }
 
-fn indexed(place: Place, value: Option<Shared<Exp>>) -> Option<Suffix>
-    ensures { result ≡ indexed place value }
-{
-    match value {
-        None => None,
-        Some(index) => Some(Suffix::Subscript { place, index }),
-    }
-}
-
 // `[a..b]`
-fn slice(place: Place, part: &Form) -> Result<Option<Suffix>, AllocError>
-    ensures { IfOk result (λ it. it ≡ slice place part.now) }
+fn slice(
+    place: Place,
+    from: &Option<Shared<Exp>>,
+    to: &Option<Shared<Exp>>,
+) -> Result<Suffix, AllocError>
+    ensures { IfOk result (λ it. it ≡ slice place from.now to.now) }
 {
-    match part {
-        Form::Bounds(from, to) => {
-            let from = share_bound(from)?;
-            let to = share_bound(to)?;
-            Ok(Some(Suffix::Slice { place, from, to }))
-        }
-        _ => Ok(None),
-    }
+    Ok(Suffix::Slice {
+        place,
+        from: share_bound(from)?,
+        to: share_bound(to)?,
+    })
 }
 
 // `[i]` or `[a..b]`
-fn subscript(alloc: Global, place: Place, part: &Form) -> Result<Option<Suffix>, AllocError>
-    ensures { IfOk result (λ it. it ≡ subscript place part.now) }
-{
-    match slice(place, part)? {
-        Some(slice) => Ok(Some(slice)),
-        None => Ok(indexed(place, as_expression(alloc, part)?)),
-    }
-}
-
-fn subscript_in(alloc: Global, place: Place, parts: &[Form]) -> Result<Option<Suffix>, AllocError>
-    ensures { IfOk result (λ it. it ≡ subscript_of place parts.now) }
+#[tactic(auto, unfolding(crate::specs::Suffix::subscript_of))]
+fn subscript(alloc: Global, place: Place, parts: &[Form]) -> Result<Suffix, FormError>
+    ensures { Gives (subscript_of place parts.now) result }
 {
     match parts.get(1) {
-        Some(part) => subscript(alloc, place, part),
-        None => Ok(None),
+        Some(Form::Bounds(from, to)) => Ok(slice(place, from, to)?),
+        _ => Ok(Suffix::Subscript {
+            place,
+            index: part_at(alloc, parts, 1)?,
+        }),
     }
 }
 
 // `.f`
 #[tactic(auto, unfolding(crate::specs::Suffix::field_of))]
-fn field(place: Place, parts: &[Form]) -> Result<Option<Suffix>, AllocError>
-    ensures { IfOk result (λ it. it ≡ field_of place parts.now) }
+fn field(alloc: Global, place: Place, parts: &[Form]) -> Result<Suffix, FormError>
+    ensures { Gives (field_of place parts.now) result }
 {
-    let Some(name) = name_at(parts, 1) else {
-        return Ok(None);
-    };
-    let name = share_identifier(name)?;
-    Ok(Some(Suffix::Field { place, name }))
+    let name = part_at(alloc, parts, 1)?;
+    Ok(Suffix::Field { place, name })
 }
 
 // `+` or `*`
-fn closure(place: Place, word: u32) -> Option<Suffix>
-    ensures { result ≡ closure place word }
+fn closure(place: Place, word: u32) -> Result<Suffix, FormError>
+    ensures { Gives (closure place word) result }
 {
     match word {
-        terminal::PLUS => Some(Suffix::TransitiveClosure { place }),
-        terminal::STAR => Some(Suffix::ReflexiveClosure { place }),
-        _ => None,
+        terminal::PLUS => Ok(Suffix::TransitiveClosure { place }),
+        terminal::STAR => Ok(Suffix::ReflexiveClosure { place }),
+        _ => Err(FormError::Missing),
     }
 }
 
 /// A suffix.
 #[tactic(auto, unfolding(crate::specs::Suffix::suffix_of))]
-pub(crate) fn suffix(
-    alloc: Global,
-    place: Place,
-    parts: &[Form],
-) -> Result<Option<Suffix>, AllocError>
-    ensures { IfOk result (λ it. it ≡ suffix_of place parts.now) }
+pub(crate) fn suffix(alloc: Global, place: Place, parts: &[Form]) -> Result<Suffix, FormError>
+    ensures { Gives (suffix_of place parts.now) result }
 {
-    let Some(word) = word_at(parts, 0) else {
-        return Ok(None);
-    };
-    match word {
-        terminal::OPEN_BRACKET => subscript_in(alloc, place, parts),
-        terminal::DOT => field(place, parts),
-        _ => Ok(closure(place, word)),
+    match word_at(parts, 0)? {
+        terminal::OPEN_BRACKET => subscript(alloc, place, parts),
+        terminal::DOT => field(alloc, place, parts),
+        word => closure(place, word),
     }
-}
-
-fn share_suffix(suffix: &Suffix) -> Result<Suffix, AllocError>
-    ensures { IfOk result (λ it. it ≡ suffix.now) }
-{
-    match suffix {
-        Suffix::Subscript { place, index } => Ok(Suffix::Subscript {
-            place: *place,
-            index: index.share()?,
-        }),
-        Suffix::Slice { place, from, to } => {
-            let from = share_bound(from)?;
-            let to = share_bound(to)?;
-            Ok(Suffix::Slice {
-                place: *place,
-                from,
-                to,
-            })
-        }
-        Suffix::Field { place, name } => Ok(Suffix::Field {
-            place: *place,
-            name: share_identifier(name)?,
-        }),
-        Suffix::TransitiveClosure { place } => Ok(Suffix::TransitiveClosure { place: *place }),
-        Suffix::ReflexiveClosure { place } => Ok(Suffix::ReflexiveClosure { place: *place }),
-    }
-}
-
-fn as_suffix(part: &Form) -> Option<&Suffix>
-    ensures { option_copied result ≡ as_suffix part.now }
-{
-    match part {
-        Form::Suffix(suffix) => Some(suffix),
-        _ => None,
-    }
-}
-
-// The suffixes among the parts.
-fn suffixes(alloc: Global, parts: &[Form]) -> Result<Row<Suffix>, AllocError>
-    ensures { IfOk result (λ row. row ≡ filter_map as_suffix parts.now) }
-{
-    let mut found = Vec::new(alloc);
-    for part in parts {
-        if let Some(suffix) = as_suffix(part) {
-            found.push(share_suffix(suffix)?)?;
-        }
-    }
-    Row::from_vec(alloc, found)
 }
 
 /// A value with suffixes.
 #[tactic(auto, unfolding(crate::specs::Suffix::suffixed_of))]
-pub(crate) fn suffixed(
-    alloc: Global,
-    place: Place,
-    parts: &[Form],
-) -> Result<Option<Exp>, AllocError>
-    ensures { IfOk result (λ it. it ≡ suffixed_of place parts.now) }
+pub(crate) fn suffixed(alloc: Global, place: Place, parts: &[Form]) -> Result<Exp, FormError>
+    ensures { Gives (suffixed_of place parts.now) result }
 {
-    let Some(value) = expression_at(alloc, parts, 0)? else {
-        return Ok(None);
-    };
-    let suffixes = suffixes(alloc, parts)?;
-    Ok(Some(Exp::Suffixed {
+    Ok(Exp::Suffixed {
         place,
-        value,
-        suffixes,
-    }))
+        value: part_at(alloc, parts, 0)?,
+        suffixes: row_in(alloc, parts)?,
+    })
 }

@@ -1,74 +1,46 @@
 //! Visits.
 
 ghost use Rattle.std.specs.Prelude.{◌≡◌, IfOk};
-ghost use Rattle.rl_expression_forms.specs.Visit.{strategy, strategy_of, visit, visit_of, written_strategy};
+ghost use Rattle.rl_forms.specs.Part.{Gives};
+ghost use Rattle.rl_expression_forms.specs.Visit.{strategy, strategy_of, visit_of, written_strategy};
 
 use rl_base::{Place, Shared};
-use rl_forms::Form;
-use rl_forms::expressions::expressions;
-use rl_forms::statements::cases;
 use rl_forms::words::word_at;
-use rl_phrase::terminal;
+use rl_forms::{Form, FormError, first_in, optional_at, row_in};
 use rl_syntax::{Exp, Strategy, Ty};
+use rl_tokens::terminal;
 use std::alloc::{AllocError, Global};
 
-fn strategy(word: u32) -> Option<Strategy>
-    ensures { result ≡ strategy word }
+fn strategy(word: u32) -> Result<Strategy, FormError>
+    ensures { Gives (strategy word) result }
 {
     match word {
-        terminal::INNERMOST => Some(Strategy::Innermost),
-        terminal::OUTERMOST => Some(Strategy::Outermost),
-        terminal::TOP_DOWN => Some(Strategy::TopDown),
-        terminal::TOP_DOWN_BREAK => Some(Strategy::TopDownBreak),
-        terminal::BOTTOM_UP => Some(Strategy::BottomUp),
-        terminal::BOTTOM_UP_BREAK => Some(Strategy::BottomUpBreak),
-        _ => None,
+        terminal::INNERMOST => Ok(Strategy::Innermost),
+        terminal::OUTERMOST => Ok(Strategy::Outermost),
+        terminal::TOP_DOWN => Ok(Strategy::TopDown),
+        terminal::TOP_DOWN_BREAK => Ok(Strategy::TopDownBreak),
+        terminal::BOTTOM_UP => Ok(Strategy::BottomUp),
+        terminal::BOTTOM_UP_BREAK => Ok(Strategy::BottomUpBreak),
+        _ => Err(FormError::Missing),
     }
 }
 
 /// The strategy that is one word.
 #[tactic(auto, unfolding(crate::specs::Visit::strategy_of))]
-pub(crate) fn strategy_form(parts: &[Form]) -> Option<Form>
-    ensures { result ≡ strategy_of parts.now }
+pub(crate) fn strategy_form(parts: &[Form]) -> Result<Form, FormError>
+    ensures { Gives (strategy_of parts.now) result }
 {
-    let word = word_at(parts, 0)?;
-    match strategy(word) {
-        None => None,
-        Some(strategy) => Some(Form::Strategy(strategy)),
-    }
+    Ok(Form::Strategy(strategy(word_at(parts, 0)?)?))
 }
 
 // The strategy that is written, or else bottom-up.
-fn written_strategy(parts: &[Form]) -> Strategy
-    ensures { result ≡ written_strategy parts.now }
+fn written_strategy(alloc: Global, parts: &[Form]) -> Result<Strategy, AllocError>
+    ensures { IfOk result (λ it. it ≡ written_strategy parts.now) }
 {
-    match parts.first() {
-        Some(Form::Strategy(strategy)) => *strategy,
-        _ => Strategy::BottomUp,
+    match optional_at(alloc, parts, 0)? {
+        Some(strategy) => Ok(strategy),
+        None => Ok(Strategy::BottomUp),
     }
-}
-
-fn visit(
-    alloc: Global,
-    place: Place,
-    subject: &Shared<Exp>,
-    parts: &[Form],
-) -> Result<Exp, AllocError>
-    ensures { IfOk result (λ it. it ≡ visit place subject.now parts.now) }
-{
-    let cases = cases(alloc, parts)?;
-    let unknown = Ty::Value {
-        place: subject.get().place(),
-    };
-    let subject_type = Shared::new(alloc, unknown)?;
-    let subject = subject.share()?;
-    Ok(Exp::Visit {
-        place,
-        strategy: written_strategy(parts),
-        subject,
-        cases,
-        subject_type,
-    })
 }
 
 /// `strategy visit (e) { cases }`
@@ -77,12 +49,18 @@ pub(crate) fn visit_expression(
     alloc: Global,
     place: Place,
     parts: &[Form],
-) -> Result<Option<Exp>, AllocError>
-    ensures { IfOk result (λ it. it ≡ visit_of place parts.now) }
+) -> Result<Exp, FormError>
+    ensures { Gives (visit_of place parts.now) result }
 {
-    let subjects = expressions(alloc, parts)?;
-    let Some(subject) = subjects.as_slice().first() else {
-        return Ok(None);
+    let subject: Shared<Exp> = first_in(alloc, parts)?;
+    let unknown = Ty::Value {
+        place: subject.get().place(),
     };
-    Ok(Some(visit(alloc, place, subject, parts)?))
+    Ok(Exp::Visit {
+        place,
+        strategy: written_strategy(alloc, parts)?,
+        subject,
+        cases: row_in(alloc, parts)?,
+        subject_type: Shared::new(alloc, unknown)?,
+    })
 }

@@ -1,22 +1,22 @@
--- Expressions and conditions among the parts of a phrase.
-use Rattle.std.specs.Prelude.{ℕ, List, [], ◌∷◌, Option, Some, None, slice_get, option_and_then, unwrap_or}
+-- Expressions, conditions and what stands behind a value, among the parts of a phrase.
+use Rattle.std.specs.Prelude.{ℕ, List, [], ◌∷◌, Option, Some, None, unwrap_or}
 use Rattle.rl_syntax.specs.declared.fragment.Concrete.{Concrete}
 use Rattle.rl_syntax.specs.declared.expression.Exp.{Exp}
 use Rattle.rl_syntax.specs.declared.expression.Exp.TheVariants as e
+use Rattle.rl_syntax.specs.declared.expression.Suffix.{Suffix}
+use Rattle.rl_syntax.specs.declared.operator.Strategy.{Strategy}
 use Rattle.rl_forms.specs.declared.form.Form.{Form}
-use Rattle.rl_forms.specs.Words.{or_else}
 use Rattle.rl_forms.specs.declared.form.Form.TheVariants as f
+use Rattle.rl_forms.specs.Part.{or_else, part_at}
 
 abbrev pub fragment_expression : Concrete → Exp
 fragment_expression fragment = e.Fragment fragment.place fragment
 
+-- a fragment is an expression
 abbrev pub as_expression : Form → Option Exp
 as_expression (f.Expression expression) = Some expression
 as_expression (f.Fragment fragment) = Some (fragment_expression fragment)
 as_expression _ = None
-
-unfoldable pub expression_at : List Form → ℕ → Option Exp
-expression_at parts at = option_and_then as_expression (slice_get parts at)
 
 abbrev pub only_condition : Option Exp → Option (List Exp)
 only_condition None = None
@@ -30,8 +30,14 @@ own_conditions _ = None
 abbrev pub as_conditions : Form → Option (List Exp)
 as_conditions part = or_else (own_conditions part) (only_condition (as_expression part))
 
-unfoldable pub conditions_at : List Form → ℕ → Option (List Exp)
-conditions_at parts at = option_and_then as_conditions (slice_get parts at)
+-- no condition where nothing stands there
+abbrev pub conditions_or_none : List Form → ℕ → List Exp
+conditions_or_none parts at = unwrap_or (part_at as_conditions parts at) []
 
-unfoldable pub conditions_or_none : List Form → ℕ → List Exp
-conditions_or_none parts at = unwrap_or (conditions_at parts at) []
+abbrev pub as_suffix : Form → Option Suffix
+as_suffix (f.Suffix suffix) = Some suffix
+as_suffix _ = None
+
+abbrev pub as_strategy : Form → Option Strategy
+as_strategy (f.Strategy strategy) = Some strategy
+as_strategy _ = None

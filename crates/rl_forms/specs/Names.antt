@@ -1,5 +1,5 @@
--- Names among the parts of a phrase.
-use Rattle.std.specs.Prelude.{ℕ, false, List, Option, Some, None, slice_get, option_and_then}
+-- Names and texts among the parts of a phrase.
+use Rattle.std.specs.Prelude.{ℕ, false, List, Option, Some, None}
 use Rattle.rl_syntax.specs.declared.identifier.Identifier.{Identifier}
 use Rattle.rl_syntax.specs.declared.identifier.PatternVariable.{PatternVariable}
 use Rattle.rl_forms.specs.declared.form.Form.{Form}
@@ -9,9 +9,14 @@ abbrev pub as_name : Form → Option Identifier
 as_name (f.Name name) = Some name
 as_name _ = None
 
-unfoldable pub name_at : List Form → ℕ → Option Identifier
-name_at parts at = option_and_then as_name (slice_get parts at)
-
--- the variable of a name
+-- the variable of this name
 abbrev pub variable_of : Identifier → PatternVariable
 variable_of name = record { place = name.place; name = name.name; number = 0; is_test = false }
+
+abbrev pub as_variable : Form → Option PatternVariable
+as_variable (f.Name name) = Some (variable_of name)
+as_variable _ = None
+
+abbrev pub as_text : Form → Option (List ℕ)
+as_text (f.Text text) = Some text
+as_text _ = None

@@ -27,17 +27,7 @@ before_word terminal parts = before_first (is_word terminal) parts
 unfoldable pub behind_word : ℕ → List Form → List Form
 behind_word terminal parts = after_first (is_word terminal) parts
 
--- what follows from a part, where it is there
-abbrev pub given : {A B : Type 0} → Option A → (A → Option B) → Option B
-given None go = None
-given (Some x) go = go x
-
 -- an element before others, if there is one
 abbrev pub put : {X : Type 0} → Option X → List X → List X
 put None xs = xs
 put (Some x) xs = x ∷ xs
-
--- the first, or else the other
-abbrev pub or_else : {X : Type 0} → Option X → Option X → Option X
-or_else (Some x) other = Some x
-or_else None other = other

@@ -1,12 +1,13 @@
-//! Expressions and conditions among the parts of a phrase.
+//! Expressions, conditions and what stands behind a value, among the parts of a phrase.
 
-ghost use Rattle.std.specs.Prelude.{◌≡◌, IfOk};
-ghost use Rattle.std.specs.List.{filter_map};
-ghost use Rattle.rl_forms.specs.Expressions.{as_conditions, as_expression, conditions_at, conditions_or_none, expression_at, fragment_expression, only_condition, own_conditions};
+ghost use Rattle.std.specs.Prelude.{◌≡◌, IfOk, [], ◌∷◌};
+ghost use Rattle.rl_forms.specs.Part.{Gives};
+ghost use Rattle.rl_forms.specs.Expressions.{conditions_or_none, fragment_expression, own_conditions};
 
 use crate::form::Form;
+use crate::part::{FormError, Part, optional_at};
 use rl_base::{Row, Shared};
-use rl_syntax::{Concrete, Exp};
+use rl_syntax::{Concrete, Exp, Strategy, Suffix};
 use std::alloc::{AllocError, Global};
 
 fn fragment_expression(
@@ -20,98 +21,55 @@ fn fragment_expression(
     Shared::new(alloc, Exp::Fragment { place, fragment })
 }
 
-/// The part as an expression.
-pub fn as_expression(alloc: Global, part: &Form) -> Result<Option<Shared<Exp>>, AllocError>
-    ensures { IfOk result (λ it. it ≡ as_expression part.now) }
-{
-    match part {
-        Form::Expression(expression) => Ok(Some(expression.share()?)),
-        Form::Fragment(fragment) => Ok(Some(fragment_expression(alloc, fragment)?)),
-        _ => Ok(None),
-    }
-}
+impl Part for Shared<Exp> {
+    ghost use Rattle.rl_forms.specs.Expressions.{as_expression};
 
-/// The expression at a place among the parts.
-#[tactic(auto, unfolding(crate::specs::Expressions::expression_at))]
-pub fn expression_at(
-    alloc: Global,
-    parts: &[Form],
-    at: usize,
-) -> Result<Option<Shared<Exp>>, AllocError>
-    ensures { IfOk result (λ it. it ≡ expression_at parts.now at) }
-{
-    match parts.get(at) {
-        Some(part) => as_expression(alloc, part),
-        None => Ok(None),
-    }
-}
+    ghost of_form = { as_expression };
 
-/// The expressions among the parts.
-pub fn expressions(alloc: Global, parts: &[Form]) -> Result<Row<Shared<Exp>>, AllocError>
-    ensures { IfOk result (λ row. row ≡ filter_map as_expression parts.now) }
-{
-    let mut found = Vec::new(alloc);
-    for part in parts {
-        if let Some(expression) = as_expression(alloc, part)? {
-            found.push(expression)?;
-        }
-    }
-    Row::from_vec(alloc, found)
-}
-
-// The list of this one condition, if there is one.
-fn only_condition(
-    alloc: Global,
-    condition: Option<Shared<Exp>>,
-) -> Result<Option<Row<Shared<Exp>>>, AllocError>
-    ensures { IfOk result (λ it. it ≡ only_condition condition) }
-{
-    match condition {
-        None => Ok(None),
-        Some(condition) => {
-            let mut row = Vec::new(alloc);
-            row.push(condition)?;
-            Ok(Some(Row::from_vec(alloc, row)?))
+    fn from_form(alloc: Global, form: &Form) -> Result<Shared<Exp>, FormError> {
+        match form {
+            Form::Expression(expression) => Ok(expression.share()?),
+            Form::Fragment(fragment) => Ok(fragment_expression(alloc, fragment)?),
+            _ => Err(FormError::Missing),
         }
     }
 }
 
-fn own_conditions(part: &Form) -> Result<Option<Row<Shared<Exp>>>, AllocError>
-    ensures { IfOk result (λ it. it ≡ own_conditions part.now) }
+fn own_conditions(form: &Form) -> Result<Row<Shared<Exp>>, FormError>
+    ensures { Gives (own_conditions form.now) result }
 {
-    match part {
-        Form::Conditions(conditions) => Ok(Some(conditions.share()?)),
-        _ => Ok(None),
+    match form {
+        Form::Conditions(conditions) => Ok(conditions.share()?),
+        _ => Err(FormError::Missing),
     }
 }
 
-// The part as conditions.
-fn as_conditions(alloc: Global, part: &Form) -> Result<Option<Row<Shared<Exp>>>, AllocError>
-    ensures { IfOk result (λ it. it ≡ as_conditions part.now) }
+fn only_condition(alloc: Global, condition: Shared<Exp>) -> Result<Row<Shared<Exp>>, AllocError>
+    ensures { IfOk result (λ row. row ≡ condition ∷ []) }
 {
-    match own_conditions(part)? {
-        Some(conditions) => Ok(Some(conditions)),
-        None => only_condition(alloc, as_expression(alloc, part)?),
-    }
+    let mut row = Vec::new(alloc);
+    row.push(condition)?;
+    Row::from_vec(alloc, row)
 }
 
-/// The conditions at a place among the parts.
-#[tactic(auto, unfolding(crate::specs::Expressions::conditions_at))]
-pub fn conditions_at(
-    alloc: Global,
-    parts: &[Form],
-    at: usize,
-) -> Result<Option<Row<Shared<Exp>>>, AllocError>
-    ensures { IfOk result (λ it. it ≡ conditions_at parts.now at) }
-{
-    match parts.get(at) {
-        Some(part) => as_conditions(alloc, part),
-        None => Ok(None),
+/// Conditions. One expression is a list of one condition.
+impl Part for Row<Shared<Exp>> {
+    ghost use Rattle.rl_forms.specs.Expressions.{as_conditions};
+
+    ghost of_form = { as_conditions };
+
+    fn from_form(alloc: Global, form: &Form) -> Result<Row<Shared<Exp>>, FormError> {
+        match own_conditions(form) {
+            Err(FormError::Missing) => {
+                let condition = Part::from_form(alloc, form)?;
+                Ok(only_condition(alloc, condition)?)
+            }
+            found => found,
+        }
     }
 }
 
 /// The conditions at a place among the parts, or no condition where nothing stands there.
-#[tactic(auto, unfolding(crate::specs::Expressions::conditions_or_none))]
 pub fn conditions_or_none(
     alloc: Global,
     parts: &[Form],
@@ -119,8 +77,34 @@ pub fn conditions_or_none(
 ) -> Result<Row<Shared<Exp>>, AllocError>
     ensures { IfOk result (λ row. row ≡ conditions_or_none parts.now at) }
 {
-    match conditions_at(alloc, parts, at)? {
+    match optional_at(alloc, parts, at)? {
         Some(conditions) => Ok(conditions),
         None => Row::from_vec(alloc, Vec::new(alloc)),
+    }
+}
+
+impl Part for Suffix {
+    ghost use Rattle.rl_forms.specs.Expressions.{as_suffix};
+
+    ghost of_form = { as_suffix };
+
+    fn from_form(_: Global, form: &Form) -> Result<Suffix, FormError> {
+        match form {
+            Form::Suffix(suffix) => Ok(suffix.share()?),
+            _ => Err(FormError::Missing),
+        }
+    }
+}
+
+impl Part for Strategy {
+    ghost use Rattle.rl_forms.specs.Expressions.{as_strategy};
+
+    ghost of_form = { as_strategy };
+
+    fn from_form(_: Global, form: &Form) -> Result<Strategy, FormError> {
+        match form {
+            Form::Strategy(strategy) => Ok(*strategy),
+            _ => Err(FormError::Missing),
+        }
     }
 }

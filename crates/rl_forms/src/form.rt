@@ -1,7 +1,7 @@
 //! What tokens and phrases say.
 
-use rl_base::{Place, Row, Shared};
-use rl_grammar::{Alt, Assoc, Atom, CharClass, Level, Name, Near, Prod, Rep, Sym};
+use rl_base::{Name, Place, Row, Shared};
+use rl_productions::{Alt, Assoc, Atom, CharClass, Level, Near, Prod, Rep, Sym};
 use rl_syntax::{
     Case, Concrete, Decl, Exp, Field, Handler, Identifier, Pattern, PatternElement, Piece, Stat,
     Strategy, Suffix, Ty, Variant,

@@ -1,12 +1,16 @@
 //! What tokens and phrases say, and the parts of a phrase by what they say.
 #![tactic(auto)]
 
-pub mod expressions;
-pub mod form;
-pub mod names;
-pub mod patterns;
-pub mod statements;
-pub mod types;
+mod declarations;
+mod expressions;
+mod form;
+mod names;
+mod part;
+mod patterns;
+mod productions;
+mod statements;
 pub mod words;
 
-pub use form::Form;
+pub use expressions::conditions_or_none;
+pub use form::{Form, GrammarForm};
+pub use part::{FormError, Part, first_in, last_in, optional_at, part_at, parts_in, row_in};

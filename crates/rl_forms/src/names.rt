@@ -1,28 +1,28 @@
-//! Names among the parts of a phrase.
+//! Names and texts among the parts of a phrase.
 
 ghost use Rattle.std.specs.Prelude.{◌≡◌, IfOk};
-ghost use Rattle.std.specs.List.{filter_map};
-ghost use Rattle.std.specs.Option.{option_copied};
-ghost use Rattle.rl_forms.specs.Names.{as_name, name_at, variable_of};
+ghost use Rattle.rl_forms.specs.Names.{variable_of};
 
 use crate::form::Form;
-use rl_base::Row;
+use crate::part::{FormError, Part};
+use rl_base::Name;
 use rl_syntax::{Identifier, PatternVariable};
 use std::alloc::{AllocError, Global};
 
-/// One more share of the name.
-pub fn share_identifier(identifier: &Identifier) -> Result<Identifier, AllocError>
-    ensures { IfOk result (λ it. it ≡ identifier.now) }
-{
-    Ok(Identifier {
-        place: identifier.place,
-        name: identifier.name.share()?,
-        number: identifier.number,
-    })
+impl Part for Identifier {
+    ghost use Rattle.rl_forms.specs.Names.{as_name};
+
+    ghost of_form = { as_name };
+
+    fn from_form(_: Global, form: &Form) -> Result<Identifier, FormError> {
+        match form {
+            Form::Name(name) => Ok(name.share()?),
+            _ => Err(FormError::Missing),
+        }
+    }
 }
 
-/// The variable of this name.
-pub fn variable(name: &Identifier) -> Result<PatternVariable, AllocError>
+fn variable(name: &Identifier) -> Result<PatternVariable, AllocError>
     ensures { IfOk result (λ it. it ≡ variable_of name.now) }
 {
     Ok(PatternVariable {
@@ -33,33 +33,30 @@ pub fn variable(name: &Identifier) -> Result<PatternVariable, AllocError>
     })
 }
 
-/// The part as a name.
-pub fn as_name(part: &Form) -> Option<&Identifier>
-    ensures { option_copied result ≡ as_name part.now }
-{
-    match part {
-        Form::Name(name) => Some(name),
-        _ => None,
-    }
-}
+/// The variable of a name.
+impl Part for PatternVariable {
+    ghost use Rattle.rl_forms.specs.Names.{as_variable};
 
-/// The name at a place among the parts.
-#[tactic(auto, unfolding(crate::specs::Names::name_at))]
-pub fn name_at(parts: &[Form], at: usize) -> Option<&Identifier>
-    ensures { option_copied result ≡ name_at parts.now at }
-{
-    as_name(parts.get(at)?)
-}
+    ghost of_form = { as_variable };
 
-/// The names among the parts.
-pub fn names(alloc: Global, parts: &[Form]) -> Result<Row<Identifier>, AllocError>
-    ensures { IfOk result (λ row. row ≡ filter_map as_name parts.now) }
-{
-    let mut found = Vec::new(alloc);
-    for part in parts {
-        if let Some(name) = as_name(part) {
-            found.push(share_identifier(name)?)?;
+    fn from_form(_: Global, form: &Form) -> Result<PatternVariable, FormError> {
+        match form {
+            Form::Name(name) => Ok(variable(name)?),
+            _ => Err(FormError::Missing),
         }
     }
-    Row::from_vec(alloc, found)
+}
+
+/// A text.
+impl Part for Name {
+    ghost use Rattle.rl_forms.specs.Names.{as_text};
+
+    ghost of_form = { as_text };
+
+    fn from_form(_: Global, form: &Form) -> Result<Name, FormError> {
+        match form {
+            Form::Text(text) => Ok(text.share()?),
+            _ => Err(FormError::Missing),
+        }
+    }
 }

@@ -1,12 +1,13 @@
 //! Patterns among the parts of a phrase.
 
 ghost use Rattle.std.specs.Prelude.{◌≡◌, IfOk};
-ghost use Rattle.std.specs.List.{filter_map};
-ghost use Rattle.rl_forms.specs.Patterns.{as_pattern, fragment_pattern, pattern_at};
+ghost use Rattle.rl_forms.specs.Part.{Gives};
+ghost use Rattle.rl_forms.specs.Patterns.{fragment_pattern, own_element};
 
 use crate::form::Form;
-use rl_base::{Row, Shared};
-use rl_syntax::{Concrete, Pattern};
+use crate::part::{FormError, Part};
+use rl_base::Shared;
+use rl_syntax::{Concrete, Pattern, PatternElement};
 use std::alloc::{AllocError, Global};
 
 fn fragment_pattern(
@@ -20,41 +21,39 @@ fn fragment_pattern(
     Shared::new(alloc, Pattern::Fragment { place, fragment })
 }
 
-/// The part as a pattern.
-pub fn as_pattern(alloc: Global, part: &Form) -> Result<Option<Shared<Pattern>>, AllocError>
-    ensures { IfOk result (λ it. it ≡ as_pattern part.now) }
-{
-    match part {
-        Form::Pattern(pattern) => Ok(Some(pattern.share()?)),
-        Form::Fragment(fragment) => Ok(Some(fragment_pattern(alloc, fragment)?)),
-        _ => Ok(None),
-    }
-}
+impl Part for Shared<Pattern> {
+    ghost use Rattle.rl_forms.specs.Patterns.{as_pattern};
 
-/// The pattern at a place among the parts.
-#[tactic(auto, unfolding(crate::specs::Patterns::pattern_at))]
-pub fn pattern_at(
-    alloc: Global,
-    parts: &[Form],
-    at: usize,
-) -> Result<Option<Shared<Pattern>>, AllocError>
-    ensures { IfOk result (λ it. it ≡ pattern_at parts.now at) }
-{
-    match parts.get(at) {
-        Some(part) => as_pattern(alloc, part),
-        None => Ok(None),
-    }
-}
+    ghost of_form = { as_pattern };
 
-/// The patterns among the parts.
-pub fn patterns(alloc: Global, parts: &[Form]) -> Result<Row<Shared<Pattern>>, AllocError>
-    ensures { IfOk result (λ row. row ≡ filter_map as_pattern parts.now) }
-{
-    let mut found = Vec::new(alloc);
-    for part in parts {
-        if let Some(pattern) = as_pattern(alloc, part)? {
-            found.push(pattern)?;
+    fn from_form(alloc: Global, form: &Form) -> Result<Shared<Pattern>, FormError> {
+        match form {
+            Form::Pattern(pattern) => Ok(pattern.share()?),
+            Form::Fragment(fragment) => Ok(fragment_pattern(alloc, fragment)?),
+            _ => Err(FormError::Missing),
         }
     }
-    Row::from_vec(alloc, found)
+}
+
+fn own_element(form: &Form) -> Result<PatternElement, FormError>
+    ensures { Gives (own_element form.now) result }
+{
+    match form {
+        Form::PatternElement(element) => Ok(element.share()?),
+        _ => Err(FormError::Missing),
+    }
+}
+
+/// A pattern is one element.
+impl Part for PatternElement {
+    ghost use Rattle.rl_forms.specs.Patterns.{as_element};
+
+    ghost of_form = { as_element };
+
+    fn from_form(alloc: Global, form: &Form) -> Result<PatternElement, FormError> {
+        match own_element(form) {
+            Err(FormError::Missing) => Ok(PatternElement::Single(Part::from_form(alloc, form)?)),
+            found => found,
+        }
+    }
 }

@@ -1,86 +1,59 @@
-//! Statements among the parts of a phrase.
+//! Statements, cases and handlers among the parts of a phrase.
 
 ghost use Rattle.std.specs.Prelude.{◌≡◌, IfOk};
-ghost use Rattle.std.specs.List.{filter_map};
-ghost use Rattle.std.specs.Option.{option_copied};
-ghost use Rattle.rl_forms.specs.Statements.{as_case, as_statement, expression_statement, statement_at};
+ghost use Rattle.rl_forms.specs.Statements.{expression_statement};
 
 use crate::form::Form;
-use rl_base::{Place, Row, Shared};
-use rl_syntax::{Case, Exp, Stat};
+use crate::part::{FormError, Part};
+use rl_base::Shared;
+use rl_syntax::{Case, Exp, Handler, Stat};
 use std::alloc::{AllocError, Global};
 
-fn expression_statement(
-    alloc: Global,
-    place: Place,
-    expression: &Shared<Exp>,
-) -> Result<Shared<Stat>, AllocError>
-    ensures { IfOk result (λ it. it ≡ expression_statement place expression.now) }
+fn expression_statement(alloc: Global, expression: &Shared<Exp>) -> Result<Shared<Stat>, AllocError>
+    ensures { IfOk result (λ it. it ≡ expression_statement expression.now) }
 {
+    let place = expression.get().place();
     let value = expression.share()?;
     Shared::new(alloc, Stat::Expression { place, value })
 }
 
-/// The part as a statement. A visit is one without its semicolon.
-pub fn as_statement(alloc: Global, part: &Form) -> Result<Option<Shared<Stat>>, AllocError>
-    ensures { IfOk result (λ it. it ≡ as_statement part.now) }
-{
-    match part {
-        Form::Statement(statement) => Ok(Some(statement.share()?)),
-        Form::Expression(expression) => {
-            let place = expression.get().place();
-            Ok(Some(expression_statement(alloc, place, expression)?))
-        }
-        _ => Ok(None),
-    }
-}
+/// A visit is a statement without its semicolon.
+impl Part for Shared<Stat> {
+    ghost use Rattle.rl_forms.specs.Statements.{as_statement};
 
-/// The statement at a place among the parts.
-#[tactic(auto, unfolding(crate::specs::Statements::statement_at))]
-pub fn statement_at(
-    alloc: Global,
-    parts: &[Form],
-    at: usize,
-) -> Result<Option<Shared<Stat>>, AllocError>
-    ensures { IfOk result (λ it. it ≡ statement_at parts.now at) }
-{
-    match parts.get(at) {
-        Some(part) => as_statement(alloc, part),
-        None => Ok(None),
-    }
-}
+    ghost of_form = { as_statement };
 
-/// The statements among the parts.
-pub fn statements(alloc: Global, parts: &[Form]) -> Result<Row<Shared<Stat>>, AllocError>
-    ensures { IfOk result (λ row. row ≡ filter_map as_statement parts.now) }
-{
-    let mut found = Vec::new(alloc);
-    for part in parts {
-        if let Some(statement) = as_statement(alloc, part)? {
-            found.push(statement)?;
+    fn from_form(alloc: Global, form: &Form) -> Result<Shared<Stat>, FormError> {
+        match form {
+            Form::Statement(statement) => Ok(statement.share()?),
+            Form::Expression(expression) => Ok(expression_statement(alloc, expression)?),
+            _ => Err(FormError::Missing),
         }
     }
-    Row::from_vec(alloc, found)
 }
 
-fn as_case(part: &Form) -> Option<&Shared<Case>>
-    ensures { option_copied result ≡ as_case part.now }
-{
-    match part {
-        Form::Case(case) => Some(case),
-        _ => None,
-    }
-}
+impl Part for Shared<Case> {
+    ghost use Rattle.rl_forms.specs.Statements.{as_case};
 
-/// The cases among the parts.
-pub fn cases(alloc: Global, parts: &[Form]) -> Result<Row<Shared<Case>>, AllocError>
-    ensures { IfOk result (λ row. row ≡ filter_map as_case parts.now) }
-{
-    let mut found = Vec::new(alloc);
-    for part in parts {
-        if let Some(case) = as_case(part) {
-            found.push(case.share()?)?;
+    ghost of_form = { as_case };
+
+    fn from_form(_: Global, form: &Form) -> Result<Shared<Case>, FormError> {
+        match form {
+            Form::Case(case) => Ok(case.share()?),
+            _ => Err(FormError::Missing),
         }
     }
-    Row::from_vec(alloc, found)
+}
+
+impl Part for Shared<Handler> {
+    ghost use Rattle.rl_forms.specs.Statements.{as_handler};
+
+    ghost of_form = { as_handler };
+
+    fn from_form(_: Global, form: &Form) -> Result<Shared<Handler>, FormError> {
+        match form {
+            Form::Handler(handler) => Ok(handler.share()?),
+            _ => Err(FormError::Missing),
+        }
+    }
 }

@@ -2,9 +2,11 @@
 
 ghost use Rattle.std.specs.Prelude.{◌≡◌, ◌≤◌, length};
 ghost use Rattle.std.specs.List.{position_or_len};
+ghost use Rattle.rl_forms.specs.Part.{Gives};
 ghost use Rattle.rl_forms.specs.Words.{as_word, before_word, behind_word, has_word, is_word, word_at};
 
 use crate::form::Form;
+use crate::part::FormError;
 
 /// Whether the part is a token of the terminal.
 pub fn is_word(terminal: u32, part: &Form) -> bool
@@ -16,22 +18,24 @@ pub fn is_word(terminal: u32, part: &Form) -> bool
     }
 }
 
-// The number of the terminal that the part is.
-fn as_word(part: &Form) -> Option<u32>
-    ensures { result ≡ as_word part.now }
+fn as_word(part: &Form) -> Result<u32, FormError>
+    ensures { Gives (as_word part.now) result }
 {
     match part {
-        Form::Word(_, word) => Some(*word),
-        _ => None,
+        Form::Word(_, word) => Ok(*word),
+        _ => Err(FormError::Missing),
     }
 }
 
 /// The number of the terminal at a place among the parts.
 #[tactic(auto, unfolding(crate::specs::Words::word_at))]
-pub fn word_at(parts: &[Form], at: usize) -> Option<u32>
-    ensures { result ≡ word_at parts.now at }
+pub fn word_at(parts: &[Form], at: usize) -> Result<u32, FormError>
+    ensures { Gives (word_at parts.now at) result }
 {
-    as_word(parts.get(at)?)
+    match parts.get(at) {
+        Some(part) => as_word(part),
+        None => Err(FormError::Missing),
+    }
 }
 
 /// Whether one of the parts is a token of the terminal.

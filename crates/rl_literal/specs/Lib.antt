@@ -1,3 +1,4 @@
+-- What the tokens of literals stand for.
 pub mod Escape
 pub mod Strings
 pub mod Words

@@ -6,6 +6,7 @@ ghost use Rattle.rl_literal.specs.Class.{class_in, item, items, ranges};
 use crate::escape::{escape_length, escaped};
 use crate::strings::{characters, inner};
 use crate::words::is_blank;
+use rl_base::Row;
 use std::alloc::{AllocError, Global};
 
 // The character, or none where it joins those beside it.
@@ -60,10 +61,10 @@ fn ranges(alloc: Global, items: &[Option<char>]) -> Result<Vec<(char, char)>, Al
 
 /// The first and the last character of each range of the class `[..]`, in text order. A single character has itself twice.
 #[tactic(auto, unfolding(crate::specs::Class::class_in))]
-pub fn class(alloc: Global, token: &str) -> Result<Vec<(char, char)>, AllocError>
-    ensures { IfOk result (λ found. found.items ≡ class_in token.now) }
+pub fn class(alloc: Global, token: &str) -> Result<Row<(char, char)>, AllocError>
+    ensures { IfOk result (λ found. found ≡ class_in token.now) }
 {
     let characters = characters(alloc, token)?;
     let items = items(alloc, inner(&characters))?;
-    ranges(alloc, &items)
+    Row::from_vec(alloc, ranges(alloc, &items)?)
 }

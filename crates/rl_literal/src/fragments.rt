@@ -1,24 +1,14 @@
 //! Fragments.
 
-ghost use Rattle.std.specs.Prelude.{◌≡◌, ◌++◌, [], IfOk, OnOk, encode_utf8_all};
+ghost use Rattle.std.specs.Prelude.{◌≡◌, ◌++◌, [], IfOk, OnOk};
 ghost use Rattle.std.specs.String.{string_bytes};
 ghost use Rattle.rl_literal.specs.Fragment.{fragment_in, hole, hole_length, hole_name, hole_sort, pieces, text_piece};
 
-use crate::strings::{add_text, characters, inner};
+use crate::strings::{characters, inner, name_of};
 use crate::words::{behind_blanks, behind_word, front_word};
-use rl_base::Place;
-use rl_grammar::Name;
+use rl_base::{Name, Place, Row};
 use rl_syntax::{PatternVariable, Piece};
 use std::alloc::{AllocError, Global};
-
-// The name of these characters.
-fn name_of(alloc: Global, text: &[char]) -> Result<Name, AllocError>
-    ensures { IfOk result (λ name. name ≡ encode_utf8_all text.now) }
-{
-    let mut name = String::new(alloc);
-    add_text(text, &mut name)?;
-    Name::from_str(alloc, name.as_str())
-}
 
 // The sort of the hole whose text stands at the front, behind its `<`.
 #[tactic(auto, unfolding(crate::specs::Fragment::hole_sort))]
@@ -109,9 +99,9 @@ fn pieces(alloc: Global, place: Place, text: &[char]) -> Result<Vec<Piece>, Allo
 
 /// The pieces of the fragment between backquotes. The variables of its holes have the place.
 #[tactic(auto, unfolding(crate::specs::Fragment::fragment_in))]
-pub fn fragment(alloc: Global, place: Place, token: &str) -> Result<Vec<Piece>, AllocError>
-    ensures { IfOk result (λ found. found.items ≡ fragment_in place token.now) }
+pub fn fragment(alloc: Global, place: Place, token: &str) -> Result<Row<Piece>, AllocError>
+    ensures { IfOk result (λ found. found ≡ fragment_in place token.now) }
 {
     let characters = characters(alloc, token)?;
-    pieces(alloc, place, inner(&characters))
+    Row::from_vec(alloc, pieces(alloc, place, inner(&characters))?)
 }

@@ -3,7 +3,7 @@
 ghost use Rattle.std.specs.Prelude.{◌≡◌, ◌<◌, ◌^◌, pos};
 ghost use Rattle.rl_literal.specs.Integer.{integer_in, number_from, with_digit};
 
-/// The greatest integer.
+// The greatest integer.
 const GREATEST: u128 = 0x7FFF_FFFF_FFFF_FFFF_FFFF_FFFF_FFFF_FFFF;
 
 // The number with one more digit behind it.

@@ -10,7 +10,7 @@ mod literal_tests;
 mod locations;
 #[cfg(test)]
 mod string_tests;
-pub mod strings;
+mod strings;
 mod words;
 
 pub use classes::class;

@@ -1,3 +1,5 @@
+//! Tests of classes, integers, locations and fragments.
+
 use crate::classes::class;
 use crate::fragments::fragment;
 use crate::integers::integer;
@@ -71,7 +73,7 @@ fn shown(alloc: Global, token: &str) -> Result<String, AllocError> {
         column: 1,
     };
     let mut text = String::new(alloc);
-    for piece in &fragment(alloc, place, token)? {
+    for piece in fragment(alloc, place, token)?.as_slice() {
         match piece {
             Piece::Text(characters) => {
                 text.push('|')?;

@@ -1,12 +1,11 @@
 //! Locations.
 
 ghost use Rattle.std.specs.Prelude.{◌≡◌, IfOk};
-ghost use Rattle.std.specs.Option.{option_map};
-ghost use Rattle.std.specs.String.{string_bytes};
 ghost use Rattle.rl_literal.specs.Location.{path_in, path_of};
 
 use crate::escape::peek;
-use crate::strings::{add_text, characters};
+use crate::strings::{characters, name_of};
+use rl_base::Name;
 use std::alloc::{AllocError, Global};
 
 // What stands between the eight characters `|cwd:///` and the last one.
@@ -22,14 +21,12 @@ fn path_of(text: &[char]) -> &[char]
 
 /// The path of `|cwd:///path|`, and none of `|unknown:///|`.
 #[tactic(auto, unfolding(crate::specs::Location::path_in))]
-pub fn location(alloc: Global, token: &str) -> Result<Option<String>, AllocError>
-    ensures { IfOk result (λ path. option_map string_bytes path ≡ path_in token.now) }
+pub fn location(alloc: Global, token: &str) -> Result<Option<Name>, AllocError>
+    ensures { IfOk result (λ path. path ≡ path_in token.now) }
 {
     let characters = characters(alloc, token)?;
     if peek(&characters, 1) != 'c' {
         return Ok(None);
     }
-    let mut path = String::new(alloc);
-    add_text(path_of(&characters), &mut path)?;
-    Ok(Some(path))
+    Ok(Some(name_of(alloc, path_of(&characters))?))
 }

@@ -1,3 +1,5 @@
+//! Tests of strings.
+
 use crate::strings::string;
 use std::test::Fail;
 

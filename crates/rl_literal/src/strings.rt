@@ -6,6 +6,7 @@ ghost use Rattle.std.specs.String.{string_bytes};
 ghost use Rattle.rl_literal.specs.Strings.{inner, string_in, unescaped};
 
 use crate::escape::{escape_length, escaped};
+use rl_base::Name;
 use std::alloc::{AllocError, Global};
 
 /// What is between the first and the last character.
@@ -19,14 +20,23 @@ pub(crate) fn inner(text: &[char]) -> &[char]
     }
 }
 
-/// Adds the text.
-pub(crate) fn add_text(text: &[char], out: &mut String) -> Result<(), AllocError>
+// Adds the text.
+fn add_text(text: &[char], out: &mut String) -> Result<(), AllocError>
     ensures { OnOk result (string_bytes out.new ≡ string_bytes out.old ++ encode_utf8_all text.now) }
 {
     for c in text {
         out.push(*c)?;
     }
     Ok(())
+}
+
+/// The name of these characters.
+pub(crate) fn name_of(alloc: Global, text: &[char]) -> Result<Name, AllocError>
+    ensures { IfOk result (λ name. name ≡ encode_utf8_all text.now) }
+{
+    let mut name = String::new(alloc);
+    add_text(text, &mut name)?;
+    Name::from_str(alloc, name.as_str())
 }
 
 // Adds the text, its escapes read.
@@ -58,11 +68,11 @@ pub(crate) fn characters(alloc: Global, token: &str) -> Result<Vec<char>, AllocE
 
 /// The text of a string, or of a piece of one, without the marks around it.
 #[tactic(auto, unfolding(crate::specs::Strings::string_in))]
-pub fn string(alloc: Global, token: &str) -> Result<String, AllocError>
-    ensures { IfOk result (λ text. string_bytes text ≡ string_in token.now) }
+pub fn string(alloc: Global, token: &str) -> Result<Name, AllocError>
+    ensures { IfOk result (λ text. text ≡ string_in token.now) }
 {
     let characters = characters(alloc, token)?;
     let mut text = String::new(alloc);
     add_unescaped(inner(&characters), &mut text)?;
-    Ok(text)
+    Name::from_str(alloc, text.as_str())
 }

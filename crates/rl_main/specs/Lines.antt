@@ -1,7 +1,7 @@
 -- The lines on err.
 use Rattle.std.specs.Prelude.{ℕ, List, [], ◌∷◌, ◌++◌, codes}
 use Rattle.std.specs.Fmt.{decimal}
-use Rattle.rl_modules.specs.Load.{Fault}
+use Rattle.rl_syntax.specs.declared.fault.Fault.{Fault}
 
 abbrev pub usage_line : List ℕ
 usage_line = codes "usage: rascal JOB MODULE [ARG].. [--root DIR] [--steps N]" ++ 10 ∷ []

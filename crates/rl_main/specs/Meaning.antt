@@ -4,7 +4,9 @@ use Rattle.rl_base.specs.Holds.{FileMap}
 use Rattle.rl_eval.specs.Evaluation.{Ran, Done, Cut}
 use Rattle.rl_eval.specs.Derivation.{derivation}
 use Rattle.rl_eval.specs.Preparation.{prepared_of}
-use Rattle.rl_modules.specs.Load.{Fault, Loading, load_of}
+use Rattle.rl_syntax.specs.declared.fault.Fault.{Fault}
+use Rattle.rl_syntax.specs.declared.module.Modules.{Modules}
+use Rattle.rl_modules.specs.Load.{load_of, paths_of}
 use Rattle.rl_main.specs.declared.status.Status.{Status}
 use Rattle.rl_main.specs.declared.status.Status.TheVariants.{Value, Usage, ModuleFault, Budget}
 use Rattle.rl_words.specs.Words.{Asked, asked_of}
@@ -33,7 +35,7 @@ meaning_of_prepared units (Err fault) = meaning_of_fault fault
 meaning_of_prepared units (Ok texts) = meaning_of_program units texts
 
 -- modules with a fault are refused
-abbrev pub meaning_of_loaded : (units : ℕ) → Loading → Meaning
+abbrev pub meaning_of_loaded : (units : ℕ) → Result Modules Fault → Meaning
 meaning_of_loaded units (Err fault) = meaning_of_fault fault
 meaning_of_loaded units (Ok modules) = meaning_of_prepared units (prepared_of modules.list)
 
@@ -43,3 +45,11 @@ meaning_of_asked (Some asked) files = meaning_of_loaded asked.units (load_of fil
 
 abbrev pub meaning : List (List ℕ) → FileMap → Meaning
 meaning words files = meaning_of_asked (asked_of words) files
+
+abbrev pub paths_asked : Option Asked → FileMap → List (List ℕ)
+paths_asked None files = []
+paths_asked (Some asked) files = paths_of files asked.root asked.name
+
+-- the paths of the files that are asked for, in order
+abbrev pub paths : List (List ℕ) → FileMap → List (List ℕ)
+paths words files = paths_asked (asked_of words) files

@@ -2,17 +2,18 @@
 
 ghost use Rattle.std.specs.Prelude.{◌≡◌, ◌≤◌, ◌⊎◌, map, string_bytes, Some, None, IfSome};
 ghost use Rattle.rl_base.specs.Faults.{Rose};
-ghost use Rattle.rl_modules.specs.Load.{fault_at, load_of};
+ghost use Rattle.rl_modules.specs.Load.{load_of, paths_of};
 ghost use Rattle.rl_eval.specs.Preparation.{prepared_of};
 ghost use Rattle.rl_words.specs.Words.{asked_of, seen_asked};
-ghost use Rattle.rl_main.specs.Meaning.{meaning, meaning_of_fault, meaning_of_loaded, meaning_of_prepared, meaning_of_program};
-ghost use Rattle.rl_main.specs.Headline.{Headline, Refuses, TellsBudget};
+ghost use Rattle.rl_main.specs.Meaning.{meaning, meaning_of_loaded, meaning_of_prepared, meaning_of_program, paths};
+ghost use Rattle.rl_main.specs.Headline.{AsksFor, Headline, Refuses, TellsBudget};
 
 use crate::lines::{budget_line, fault_line};
 use crate::status::Status;
-use rl_base::{Files, Meter, Place, Sink};
+use rl_base::{Files, Meter, Sink};
 use rl_eval::{End, Machine, PrepareEnd, Program, prepare};
-use rl_modules::{LoadEnd, Modules, load};
+use rl_modules::{LoadEnd, load};
+use rl_syntax::{Fault, Modules};
 use rl_words::{Asked, asked_of};
 use std::alloc::Global;
 
@@ -22,7 +23,7 @@ const USAGE: &str = "usage: rascal JOB MODULE [ARG].. [--root DIR] [--steps N]\n
 ///
 /// Where the files tell what they hold: out, err and the status are what the words and the files mean. A failed read or
 /// want of memory leaves a front of that out, and err as it was; a failed put leaves a front of out or, behind the
-/// whole of out, a front of err. Each line is one `put`, and nothing is put after a put that failed.
+/// whole of out, a front of err. The files that are read are those that the module leads to, in order, each once.
 pub fn run<F: Files, O: Sink, E: Sink>(
     alloc: Global,
     words: &[String],
@@ -31,6 +32,7 @@ pub fn run<F: Files, O: Sink, E: Sink>(
     err: &mut E,
 ) -> Status
     ensures headline { IfSome (F.holds files.old) (λ held. Headline (meaning (map string_bytes words.now) held) result (O.told out.old) (O.told out.new) (E.told err.old) (E.told err.new)) }
+    ensures asked { IfSome (F.holds files.old) (λ held. AsksFor (paths (map string_bytes words.now) held) result (F.asked files.old) (F.asked files.new)) }
 
     // Whatever the files tell:
     ensures usage { result ≡ Status.Usage → asked_of (map string_bytes words.now) ≡ None }
@@ -53,7 +55,7 @@ pub fn run<F: Files, O: Sink, E: Sink>(
     }
 }
 
-/// Loads and runs a module.
+// Loads and runs a module.
 fn run_module<F: Files, O: Sink, E: Sink>(
     alloc: Global,
     asked: Asked<'_>,
@@ -62,6 +64,7 @@ fn run_module<F: Files, O: Sink, E: Sink>(
     err: &mut E,
 ) -> Status
     ensures headline { IfSome (F.holds files.old) (λ held. Headline (meaning_of_loaded asked.entry.units (load_of held asked.entry.root.now asked.entry.name.now)) result (O.told out.old) (O.told out.new) (E.told err.old) (E.told err.new)) }
+    ensures asked { IfSome (F.holds files.old) (λ held. AsksFor (paths_of held asked.entry.root.now asked.entry.name.now) result (F.asked files.old) (F.asked files.new)) }
     ensures no_usage { result ≡ Status.Usage → ⊥ }
     ensures file_fault { result ≡ Status.FileFault → Rose (F.faults files.old) (F.faults files.new) }
     ensures sink_fault { result ≡ Status.SinkFault → Rose (O.faults out.old) (O.faults out.new) ⊎ Rose (E.faults err.old) (E.faults err.new) }
@@ -72,19 +75,19 @@ fn run_module<F: Files, O: Sink, E: Sink>(
 {
     match load(alloc, files, asked.root, asked.name) {
         Ok(modules) => run_modules(alloc, modules, asked.units, files, out, err),
-        Err(LoadEnd::Fault { path, place, code }) => refuse(alloc, path.as_str(), place, code, err),
+        Err(LoadEnd::Fault(fault)) => refuse(alloc, &fault, err),
         Err(LoadEnd::FileFault) => Status::FileFault,
         Err(LoadEnd::OutOfMemory) => Status::OutOfMemory,
     }
 }
 
-/// Tells a fault of a module.
-fn refuse<E: Sink>(alloc: Global, path: &str, place: Place, code: u8, err: &mut E) -> Status
-    ensures headline { Refuses (fault_at (path.now, place) code) result (E.told err.old) (E.told err.new) }
+// Tells a fault of a module.
+fn refuse<E: Sink>(alloc: Global, fault: &Fault, err: &mut E) -> Status
+    ensures headline { Refuses fault.now result (E.told err.old) (E.told err.new) }
     ensures sink_fault { result ≡ Status.SinkFault → Rose (E.faults err.old) (E.faults err.new) }
     ensures err_counted { E.faults err.old ≤ E.faults err.new }
 {
-    match fault_line(alloc, path, place, code) {
+    match fault_line(alloc, fault) {
         Err(_) => Status::OutOfMemory,
         Ok(line) => match err.put(line.as_str().as_bytes()) {
             Ok(()) => Status::ModuleFault,
@@ -93,7 +96,7 @@ fn refuse<E: Sink>(alloc: Global, path: &str, place: Place, code: u8, err: &mut 
     }
 }
 
-/// Makes a program of modules and runs it.
+// Makes a program of modules and runs it.
 fn run_modules<F: Files, O: Sink, E: Sink>(
     alloc: Global,
     modules: Modules,
@@ -106,6 +109,7 @@ fn run_modules<F: Files, O: Sink, E: Sink>(
     ensures no_usage { result ≡ Status.Usage → ⊥ }
     ensures file_fault { result ≡ Status.FileFault → Rose (F.faults files.old) (F.faults files.new) }
     ensures sink_fault { result ≡ Status.SinkFault → Rose (O.faults out.old) (O.faults out.new) ⊎ Rose (E.faults err.old) (E.faults err.new) }
+    ensures asked { F.asked files.new ≡ F.asked files.old }
     ensures held { F.holds files.new ≡ F.holds files.old }
     ensures files_counted { F.faults files.old ≤ F.faults files.new }
     ensures out_counted { O.faults out.old ≤ O.faults out.new }
@@ -113,14 +117,12 @@ fn run_modules<F: Files, O: Sink, E: Sink>(
 {
     match prepare(alloc, modules) {
         Ok(program) => run_program(alloc, program, units, files, out, err),
-        Err(PrepareEnd::Fault { path, place, code }) => {
-            refuse(alloc, path.as_str(), place, code, err)
-        }
+        Err(PrepareEnd::Fault(fault)) => refuse(alloc, &fault, err),
         Err(PrepareEnd::OutOfMemory) => Status::OutOfMemory,
     }
 }
 
-/// Runs a program.
+// Runs a program.
 fn run_program<F: Files, O: Sink, E: Sink>(
     alloc: Global,
     program: Program,
@@ -133,6 +135,7 @@ fn run_program<F: Files, O: Sink, E: Sink>(
     ensures no_usage { result ≡ Status.Usage → ⊥ }
     ensures file_fault { result ≡ Status.FileFault → Rose (F.faults files.old) (F.faults files.new) }
     ensures sink_fault { result ≡ Status.SinkFault → Rose (O.faults out.old) (O.faults out.new) ⊎ Rose (E.faults err.old) (E.faults err.new) }
+    ensures asked { F.asked files.new ≡ F.asked files.old }
     ensures held { F.holds files.new ≡ F.holds files.old }
     ensures files_counted { F.faults files.old ≤ F.faults files.new }
     ensures out_counted { O.faults out.old ≤ O.faults out.new }
@@ -152,7 +155,7 @@ fn run_program<F: Files, O: Sink, E: Sink>(
     }
 }
 
-/// Tells that a budget was used up.
+// Tells that a budget was used up.
 fn tell_budget<E: Sink>(alloc: Global, units: u64, err: &mut E) -> Status
     ensures headline { TellsBudget units result (E.told err.old) (E.told err.new) }
     ensures sink_fault { result ≡ Status.SinkFault → Rose (E.faults err.old) (E.faults err.new) }

@@ -2,13 +2,12 @@
 
 ghost use Rattle.std.specs.Prelude.{◌≡◌, ◌++◌, IfOk, OnOk, string_bytes};
 ghost use Rattle.std.specs.Fmt.{decimal};
-ghost use Rattle.rl_modules.specs.Load.{fault_at};
 ghost use Rattle.rl_main.specs.Lines.{fault_line, budget_line};
 
-use rl_base::Place;
+use rl_syntax::Fault;
 use std::alloc::{AllocError, Global};
 
-/// Puts a number behind a text, and what stands before it.
+// Puts a number behind a text, and what stands before it.
 fn push_number(
     alloc: Global,
     line: &mut String,
@@ -23,14 +22,13 @@ fn push_number(
 }
 
 /// The line that tells where a fault is.
-pub fn fault_line(alloc: Global, path: &str, place: Place, code: u8) -> Result<String, AllocError>
-    ensures { IfOk result (λ text. string_bytes text ≡ fault_line (fault_at (path.now, place) code)) }
+pub fn fault_line(alloc: Global, fault: &Fault) -> Result<String, AllocError>
+    ensures { IfOk result (λ text. string_bytes text ≡ fault_line fault.now) }
 {
-    let column = place.column;
-    let mut line = String::from_str(alloc, path)?;
-    push_number(alloc, &mut line, ":", place.line)?;
-    push_number(alloc, &mut line, ":", column)?;
-    push_number(alloc, &mut line, ": M", code as u32)?;
+    let mut line = String::from_str(alloc, fault.path.as_str())?;
+    push_number(alloc, &mut line, ":", fault.place.line)?;
+    push_number(alloc, &mut line, ":", fault.place.column)?;
+    push_number(alloc, &mut line, ": M", u32::from(fault.code))?;
     line.push_str("\n")?;
     Ok(line)
 }

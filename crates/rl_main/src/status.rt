@@ -1,3 +1,5 @@
+//! How the command ends.
+
 ghost use Rattle.std.specs.Prelude.{◌≡◌};
 ghost use Rattle.rl_main.specs.Status.{code_of};
 

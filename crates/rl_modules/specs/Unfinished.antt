@@ -1,25 +1,25 @@
 -- What is left to do while modules are loaded.
 use Rattle.std.specs.Prelude.{◌≡◌, ℕ, ◌+◌, ◌-◌, ◌<◌, ◌≤◌, List, [], ◌∷◌, ◌++◌, length, drop, None, Result, Ok, Err, IfSome}
 use Rattle.std.specs.List.{slice_get}
+use Rattle.rl_base.specs.Asked.{Asked, asked_after}
 use Rattle.rl_base.specs.Holds.{FileMap}
 use Rattle.rl_syntax.specs.declared.module.Module.{Module}
+use Rattle.rl_syntax.specs.declared.module.Modules.{Modules}
 use Rattle.rl_syntax.specs.declared.declaration.Decl.{Decl}
-use Rattle.rl_modules.specs.declared.loaded.Modules.{Modules}
 use Rattle.rl_modules.specs.declared.loaded.LoadEnd.{LoadEnd}
-use Rattle.rl_modules.specs.declared.loaded.LoadEnd.TheVariants as end
 use Rattle.rl_modules.specs.declared.loader.Unfinished.{Unfinished}
 use Rattle.rl_modules.specs.declared.loader.Loader.{Loader}
-use Rattle.rl_modules.specs.Load.{Loading, fault_at, and_then, in_turn, import_of, wanted, names_of, load_import, load_within, with_finished, most_modules}
+use Rattle.rl_modules.specs.Load.{Loading, Asks, IsLoaded, asking, gives, and_then, in_turn, import_of, wanted, names_of, load_import, load_within, with_finished, most_modules}
 
 -- the rest of a module: its further imports, and then it is finished
 abbrev pub rest_of : ℕ → FileMap → List ℕ → Unfinished → Modules → Loading
 rest_of k files root unfinished met =
     and_then (in_turn (load_import (load_within k files root) unfinished.path) (drop unfinished.next unfinished.declarations) met) (λ loaded.
-    Ok (with_finished unfinished.number loaded))
+    gives (with_finished unfinished.number loaded))
 
 -- the rests of the modules that are not finished, the last one first; each is nested one deeper than the one before it
 unfoldable pub rests_of : ℕ → FileMap → List ℕ → List Unfinished → Modules → Loading
-rests_of k files root [] met = Ok met
+rests_of k files root [] met = gives met
 rests_of k files root (one ∷ more) met = and_then (rests_of (k - 1) files root more met) (rest_of k files root one)
 
 abbrev pub met_by : Loader → Modules
@@ -64,9 +64,7 @@ pub record PutsOff (one : Unfinished) (old new : Loader) : Type 0 where
   pub finished : new.finished.items ≡ old.finished.items
   pub unfinished : new.unfinished.items ≡ old.unfinished.items ++ one ∷ []
 
--- it goes on to that, or ends so, unless the outside or memory failed
-abbrev pub GoesOn : {A : Type 0} → (before : Loading) → Result A LoadEnd → (after : Loading) → Type 0
-GoesOn before (Ok _) after = after ≡ before
-GoesOn before (Err (end.Fault path place code)) after = before ≡ Err (fault_at (path, place) code)
-GoesOn before (Err end.FileFault) after = Unit {0}
-GoesOn before (Err end.OutOfMemory) after = Unit {0}
+-- What was left to do asks for some paths, and what comes after them is left; or it ends so, unless the outside or memory failed.
+abbrev pub GoesOn : {A : Type 0} → (before : Loading) → Asked → Result A LoadEnd → Asked → (after : Loading) → Type 0
+GoesOn before asked (Ok _) asked' after = (paths : List (List ℕ)) × (before ≡ asking paths after) × (asked' ≡ asked_after asked paths)
+GoesOn before asked (Err end) asked' after = IsLoaded {A = Modules} before.outcome (Err end) × Asks {A = Modules} before.asked asked (Err end) asked'

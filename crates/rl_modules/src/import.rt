@@ -6,20 +6,20 @@ ghost use Rattle.std.specs.Option.{option_map};
 ghost use Rattle.rl_modules.specs.Load.{import_of, wanted};
 ghost use Rattle.rl_modules.specs.Unfinished.{SkipsTo};
 
-use crate::built_in::is_built_in;
 use crate::names::Names;
 use rl_base::Place;
 use rl_syntax::Decl;
+use rl_visibility::is_built_in;
 
-/// An import or extend.
+// An import or extend.
 #[derive(Clone, Copy)]
 pub struct Import<'a> {
     pub place: Place,
-    /// The name of the module.
+    // The name of the module.
     pub name: &'a str,
 }
 
-/// A declaration as an import or extend.
+// A declaration as an import or extend.
 fn import_of(declaration: &Decl) -> Option<Import<'_>>
     ensures { option_map (λ it. (it.place, it.name.now)) result ≡ import_of declaration.now }
 {
@@ -32,7 +32,7 @@ fn import_of(declaration: &Decl) -> Option<Import<'_>>
     }
 }
 
-/// The import or extend of a module that is neither built in nor among the names.
+// The import or extend of a module that is neither built in nor among the names.
 fn wanted<'a>(declaration: &'a Decl, names: &Names) -> Option<Import<'a>>
     ensures { option_map (λ it. (it.place, it.name.now)) result ≡ wanted names.now (import_of declaration.now) }
 {
@@ -48,8 +48,8 @@ fn wanted<'a>(declaration: &'a Decl, names: &Names) -> Option<Import<'a>>
     }
 }
 
-/// The number of the first declaration from a place on that imports or extends a module which is neither built in nor among
-/// the names.
+// The number of the first declaration from a place on that imports or extends a module which is neither built in nor among
+// the names.
 pub fn next_wanted<'a>(
     declarations: &'a [Decl],
     from: usize,

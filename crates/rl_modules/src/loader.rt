@@ -11,39 +11,38 @@ use crate::import::next_wanted;
 use crate::loaded::LoadEnd;
 use crate::names::Names;
 use crate::read::{fault, read};
-use rl_base::{Files, Row};
-use rl_grammar::Name;
+use rl_base::{Files, Name, Row};
 use rl_syntax::{Decl, Module};
 use std::alloc::{AllocError, Global};
 
-/// The most modules that a program may have.
+// The most modules that a program may have.
 const MOST_MODULES: usize = 1000;
 
-/// A module whose imports are not all loaded.
+// A module whose imports are not all loaded.
 #[derive(Drop)]
 pub struct Unfinished {
     pub number: u32,
     pub path: Name,
     pub declarations: Row<Decl>,
-    /// The first declaration that was not looked at.
+    // The first declaration that was not looked at.
     pub next: usize,
 }
 
-/// Loading, under way.
+// Loading, under way.
 #[derive(Drop)]
 pub struct Loader {
     pub alloc: Global,
-    /// The modules that were met, and their names.
+    // The modules that were met, and their names.
     pub list: Vec<Module>,
     pub names: Names,
-    /// The numbers of those that are finished.
+    // The numbers of those that are finished.
     pub finished: Vec<u32>,
-    /// The others, each behind the one that asked for it.
+    // The others, each behind the one that asked for it.
     pub unfinished: Vec<Unfinished>,
 }
 
 impl Loader {
-    /// Nothing was loaded.
+    // Nothing was loaded.
     pub fn new(alloc: Global) -> Loader
         ensures sound { IsSound result }
         ensures list { result.list.items ≡ [] }
@@ -59,7 +58,7 @@ impl Loader {
         }
     }
 
-    /// Adds a module that was not met.
+    // Adds a module that was not met.
     pub fn add(&mut self, module: Module) -> Result<(), AllocError>
         requires sound { IsSound self.old }
         requires room { length self.old.list.items < most_modules }
@@ -78,7 +77,7 @@ impl Loader {
         Ok(())
     }
 
-    /// Notes that a module is finished.
+    // Notes that a module is finished.
     fn finish(&mut self, number: u32) -> Result<(), AllocError>
         ensures { OnOk result (Finishes number self.old self.new) }
     {
@@ -86,7 +85,7 @@ impl Loader {
         Ok(())
     }
 
-    /// Puts off the rest of a module.
+    // Puts off the rest of a module.
     fn put_off(&mut self, unfinished: Unfinished) -> Result<(), AllocError>
         ensures { OnOk result (PutsOff unfinished self.old self.new) }
     {
@@ -94,8 +93,8 @@ impl Loader {
         Ok(())
     }
 
-    /// Goes on with a module that is not finished, the last one: up to the next module that it imports, which is met now, or
-    /// to its end.
+    // Goes on with a module that is not finished, the last one: up to the next module that it imports, which is met now, or
+    // to its end.
     fn go_on<F: Files>(
         &mut self,
         files: &mut F,
@@ -104,7 +103,7 @@ impl Loader {
     ) -> Result<(), LoadEnd>
         requires sound { IsSound self.old }
         requires nested { length self.old.unfinished.items < length self.old.list.items }
-        ensures answer { IfSome (F.holds files.old) (λ held. GoesOn (rests_of (most_modules - 1) held root.now (self.old.unfinished.items ++ unfinished ∷ []) (met_by self.old)) result (outcome_of held root.now self.new)) }
+        ensures answer { IfSome (F.holds files.old) (λ held. GoesOn (rests_of (most_modules - 1) held root.now (self.old.unfinished.items ++ unfinished ∷ []) (met_by self.old)) (F.asked files.old) result (F.asked files.new) (outcome_of held root.now self.new)) }
         ensures sound { OnOk result (IsSound self.new) }
         ensures smaller { OnOk result (2 * (most_modules - length self.new.list.items) + length self.new.unfinished.items < 2 * (most_modules - length self.old.list.items) + length self.old.unfinished.items + 1) }
         ensures file_fault { IsErrOf result LoadEnd.FileFault → Rose (F.faults files.old) (F.faults files.new) }
@@ -143,10 +142,10 @@ impl Loader {
         }
     }
 
-    /// Goes on until all modules are finished.
+    // Goes on until all modules are finished.
     pub fn run<F: Files>(&mut self, files: &mut F, root: &str) -> Result<(), LoadEnd>
         requires { IsSound self.old }
-        ensures answer { IfSome (F.holds files.old) (λ held. GoesOn (outcome_of held root.now self.old) result (outcome_of held root.now self.new)) }
+        ensures answer { IfSome (F.holds files.old) (λ held. GoesOn (outcome_of held root.now self.old) (F.asked files.old) result (F.asked files.new) (outcome_of held root.now self.new)) }
         ensures all { OnOk result (self.new.unfinished.items ≡ []) }
         ensures file_fault { IsErrOf result LoadEnd.FileFault → Rose (F.faults files.old) (F.faults files.new) }
         ensures held { F.holds files.new ≡ F.holds files.old }

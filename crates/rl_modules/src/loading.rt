@@ -2,16 +2,17 @@
 
 ghost use Rattle.std.specs.Prelude.{◌≡◌, ◌≤◌, IfOk, IfSome, IsErrOf, string_bytes};
 ghost use Rattle.rl_base.specs.Faults.{Rose};
-ghost use Rattle.rl_modules.specs.Load.{load_of, IsLoaded};
+ghost use Rattle.rl_modules.specs.Load.{Asks, IsLoaded, load_of, paths_of};
 
-use crate::loaded::{LoadEnd, Modules};
+use crate::loaded::LoadEnd;
 use crate::loader::Loader;
 use crate::path::path_of;
 use crate::read::read;
 use rl_base::{Files, Place, Row};
+use rl_syntax::Modules;
 use std::alloc::Global;
 
-/// Where a file begins.
+// Where a file begins.
 const START: Place = Place {
     module: 0,
     offset: 0,
@@ -35,6 +36,7 @@ pub fn load<F: Files>(
     name: &str,
 ) -> Result<Modules, LoadEnd>
     ensures answer { IfSome (F.holds files.old) (λ held. IsLoaded (load_of held root.now name.now) result) }
+    ensures asked { IfSome (F.holds files.old) (λ held. Asks (paths_of held root.now name.now) (F.asked files.old) result (F.asked files.new)) }
     ensures file_fault { IsErrOf result LoadEnd.FileFault → Rose (F.faults files.old) (F.faults files.new) }
     ensures held { F.holds files.new ≡ F.holds files.old }
     ensures counted { F.faults files.old ≤ F.faults files.new }

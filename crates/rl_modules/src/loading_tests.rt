@@ -1,8 +1,9 @@
 //! Loading over files in memory.
 
-use crate::loaded::{LoadEnd, Modules};
+use crate::loaded::LoadEnd;
 use crate::loading::load;
 use rl_base::MemFiles;
+use rl_syntax::Modules;
 use std::alloc::Global;
 use std::test::Fail;
 
@@ -14,7 +15,7 @@ fn files(alloc: Global, entries: &[(&str, &str)]) -> Result<MemFiles, Fail> {
     Ok(files)
 }
 
-/// The names of modules by number, and the numbers in the order in which they were finished.
+// The names of modules by number, and the numbers in the order in which they were finished.
 fn is_loaded(modules: &Modules, names: &[&str], finished: &[u32]) -> bool {
     let list = modules.list.as_slice();
     list.len() == names.len()
@@ -74,13 +75,13 @@ fn each_module_is_loaded_once_and_depth_first(rt: HostRuntime) -> Result<(), Fai
 
 fn is_fault(end: &Result<Modules, LoadEnd>, want: (&str, u32, u32, u32, u8)) -> bool {
     match end {
-        Err(LoadEnd::Fault { path, place, code }) => {
+        Err(LoadEnd::Fault(fault)) => {
             let (at, module, line, column, number) = want;
-            path.as_str() == at
-                && place.module == module
-                && place.line == line
-                && place.column == column
-                && *code == number
+            fault.path.as_str() == at
+                && fault.place.module == module
+                && fault.place.line == line
+                && fault.place.column == column
+                && fault.code == number
         }
         _ => false,
     }

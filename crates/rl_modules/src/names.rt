@@ -8,7 +8,7 @@ use indexmap::IndexSet;
 use std::alloc::{AllocError, Global};
 use std::marker::Model;
 
-/// Names, each once, which are looked up without going through them.
+// Names, each once, which are looked up without going through them.
 #[derive(Drop)]
 pub struct Names {
     alloc: Global,
@@ -24,7 +24,7 @@ impl Model for Names {
 }
 
 impl Names {
-    /// No names.
+    // No names.
     pub fn new(alloc: Global) -> Names
         ensures { result ≡ [] }
     {
@@ -34,14 +34,14 @@ impl Names {
         }
     }
 
-    /// Whether a name is among them.
+    // Whether a name is among them.
     pub fn contains(&self, name: &str) -> bool
         ensures { result ≡ list_any (bytes_eq name.now) self.now }
     {
         self.set.contains(name)
     }
 
-    /// Adds a name that is not among them. A refusal changes nothing.
+    // Adds a name that is not among them. A refusal changes nothing.
     pub fn add(&mut self, name: &str) -> Result<(), AllocError>
         requires { list_any (bytes_eq name.now) self.old ≡ false }
         ensures ok { OnOk result (self.new ≡ self.old ++ name.now ∷ []) }

@@ -4,12 +4,12 @@ use Rattle.std.specs.List.{list_all}
 use Rattle.std.proofs.lemmas.List.Folds.{list_all_at, list_all-map, list_all-append}
 use Rattle.rl_value.specs.Plain.{Plain, plains_of, plain_size, plain_height, plains_size, plains_height, Fits}
 use Rattle.rl_value.specs.Order.{plain_cmp}
-use Rattle.rl_value.specs.Rising.{rising}
+use Rattle.rl_value.specs.Rising.{In, rising}
 use Rattle.rl_value.specs.Laws.{plain_cmp_total, plain_exact}
 use Rattle.rl_value.specs.Built.{Builds}
 use Rattle.rl_value.specs.declared.build_end.BuildEnd.{BuildEnd}
 use Rattle.rl_value.specs.declared.build_end.BuildEnd.TheVariants.{TooLarge, OutOfMemory}
-use Rattle.rl_value.proofs.RisingLemmas.{In, In-rising}
+use Rattle.rl_value.proofs.RisingLemmas.{In-rising}
 use Rattle.rl_value.proofs.RenewLemmas.{not_fitting}
 use Rattle.rl_exception.specs.Answer.{fits}
 use Rattle.rl_exception.proofs.FittingLemmas.{fits-true, fits-false}

@@ -1,3 +1,4 @@
+-- What operators give.
 pub mod Apply
 pub mod Arithmetic
 pub mod Comparison

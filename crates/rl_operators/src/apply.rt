@@ -1,3 +1,5 @@
+//! What the operators answer.
+
 ghost use Rattle.rl_exception.specs.Answer.{Answers};
 ghost use Rattle.rl_operators.specs.Apply.{binary_of, unary_of};
 

@@ -1,7 +1,7 @@
 //! The operators of the language on values.
 #![tactic(auto)]
 
-pub mod apply;
+mod apply;
 mod arithmetic;
 mod comparison;
 mod lists;
@@ -9,7 +9,7 @@ mod locations;
 mod logic;
 mod maps;
 mod membership;
-pub mod operator;
+mod operator;
 mod products;
 mod sets;
 mod sums;

@@ -104,14 +104,14 @@ pub(crate) fn has_element(values: &[Value], x: &Value) -> bool
     values.contains(x)
 }
 
-/// The first place of a value.
+// The first place of a value.
 fn place_of(values: &[Value], x: &Value) -> Option<usize>
     ensures { result ≡ position (λ y. plain_eq y x.now) values.now }
 {
     values.iter().position(|value| value == x)
 }
 
-/// Takes out the first place of a value.
+// Takes out the first place of a value.
 fn take_out(values: &mut Vec<Value>, x: &Value)
     ensures { values.new.items ≡ without_first x.now values.old.items }
 {

@@ -8,7 +8,7 @@ use rl_exception::{OpEnd, fitted_location, fitted_text};
 use rl_value::{Scheme, Value};
 use std::alloc::{AllocError, Global};
 
-/// The path with one more segment, after a slash unless it is empty.
+// The path with one more segment, after a slash unless it is empty.
 fn with_segment(alloc: Global, path: &str, segment: &str) -> Result<String, AllocError>
     ensures { IfOk result (λ s. string_bytes s ≡ with_segment path.now segment.now) }
 {

@@ -36,7 +36,7 @@ fn share_entries(pairs: &mut Vec<(Value, Value)>, entries: &[Entry]) -> Result<(
     Ok(())
 }
 
-/// The entries of both.
+// The entries of both.
 fn joined_entries(
     alloc: Global,
     a: &[Entry],

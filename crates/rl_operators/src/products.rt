@@ -32,7 +32,7 @@ fn pair(alloc: Global, x: &Value, y: &Value) -> Result<Value, BuildEnd>
     tuple(alloc, parts)
 }
 
-/// Adds the pairs of one value with each of these.
+// Adds the pairs of one value with each of these.
 fn add_pairs(alloc: Global, pairs: &mut Vec<Value>, x: &Value, ys: &[Value]) -> Result<(), BuildEnd>
     ensures ok { OnOk result (pairs.new.items ≡ pairs.old.items ++ map (pair_of x.now) ys.now) }
     ensures large { result ≡ Err TooLarge → list_all fits (map (pair_of x.now) ys.now) ≡ false }
@@ -46,7 +46,7 @@ fn add_pairs(alloc: Global, pairs: &mut Vec<Value>, x: &Value, ys: &[Value]) -> 
     Ok(())
 }
 
-/// The pairs of each of one list with each of another.
+// The pairs of each of one list with each of another.
 fn pairs(alloc: Global, xs: &[Value], ys: &[Value]) -> Result<Vec<Value>, BuildEnd>
     ensures ok { IfOk result (λ v. v.items ≡ all_pairs xs.now ys.now) }
     ensures large { result ≡ Err TooLarge → list_all fits (all_pairs xs.now ys.now) ≡ false }
@@ -61,7 +61,7 @@ fn pairs(alloc: Global, xs: &[Value], ys: &[Value]) -> Result<Vec<Value>, BuildE
     Ok(pairs)
 }
 
-/// Whether two sets have more pairs than a value can hold: each has a size of at least 3, and no two are equal.
+// Whether two sets have more pairs than a value can hold: each has a size of at least 3, and no two are equal.
 fn has_too_many_pairs(a: &[Value], b: &[Value]) -> bool
     ensures { result ≡ true → 2 ^ 24 ≤ 3 * (length a.now * length b.now) }
 {

@@ -1,3 +1,4 @@
+-- Patterns, from what the parts of their phrases say.
 pub mod Literals
 pub mod Elements
 pub mod Plain

@@ -1,5 +1,5 @@
 -- Patterns of one token, and negative integers.
-use Rattle.std.specs.Prelude.{ℕ, ◌==◌, true, false, if◌then◌else◌, List, Option, Some, None}
+use Rattle.std.specs.Prelude.{ℕ, ◌==◌, true, false, if◌then◌else◌, Option, Some, None}
 use Rattle.std.specs.Int.{w128, int_wrapping_neg}
 use Rattle.rl_base.specs.declared.place.Place.{Place}
 use Rattle.rl_syntax.specs.declared.pattern.Pattern.{Pattern}
@@ -15,14 +15,11 @@ word_of place word =
     else (if word == FALSE then Some (p.Truth place false)
     else (if word == UNDERSCORE then Some (p.Wildcard place) else None))
 
-abbrev pub location_of : Place → Option (List ℕ) → Pattern
-location_of place path = p.Location place path
-
 -- the pattern that a token is
 unfoldable pub token_of : Place → Form → Option Pattern
 token_of place (f.Integer value) = Some (p.Integer place value)
 token_of place (f.Text text) = Some (p.Text place text)
-token_of place (f.Location path) = Some (location_of place path)
+token_of place (f.Location path) = Some (p.Location place path)
 token_of place (f.Name name) = Some (p.Variable place (variable_of name))
 token_of place (f.Word at word) = word_of place word
 token_of place _ = None

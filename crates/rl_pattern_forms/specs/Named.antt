@@ -5,25 +5,23 @@ use Rattle.rl_syntax.specs.declared.pattern.Pattern.{Pattern}
 use Rattle.rl_syntax.specs.declared.pattern.Pattern.TheVariants as p
 use Rattle.rl_forms.specs.declared.form.Form.{Form}
 use Rattle.rl_forms.specs.declared.form.Form.TheVariants as f
-use Rattle.rl_forms.specs.Words.{given}
-use Rattle.rl_forms.specs.Names.{name_at, variable_of}
-use Rattle.rl_forms.specs.Types.{type_at}
-use Rattle.rl_forms.specs.Patterns.{pattern_at}
+use Rattle.rl_forms.specs.Part.{given, part_at}
+use Rattle.rl_forms.specs.Names.{as_variable}
+use Rattle.rl_forms.specs.Declarations.{as_type}
+use Rattle.rl_forms.specs.Patterns.{as_pattern}
 
 -- x : p
 unfoldable pub binding_of : Place → List Form → Option Pattern
 binding_of place parts =
-    given (name_at parts 0) (λ name.
-    given (pattern_at parts 2) (λ pattern.
-    Some (p.Binding place (variable_of name) pattern)))
+    given (part_at as_variable parts 0) (λ variable.
+    given (part_at as_pattern parts 2) (λ pattern. Some (p.Binding place variable pattern)))
 
 -- T x : p
 unfoldable pub typed_binding_of : Place → List Form → Option Pattern
 typed_binding_of place parts =
-    given (type_at parts 0) (λ ty.
-    given (name_at parts 1) (λ name.
-    given (pattern_at parts 3) (λ pattern.
-    Some (p.TypedBinding place ty (variable_of name) pattern))))
+    given (part_at as_type parts 0) (λ ty.
+    given (part_at as_variable parts 1) (λ variable.
+    given (part_at as_pattern parts 3) (λ pattern. Some (p.TypedBinding place ty variable pattern))))
 
 abbrev pub named_from : Place → List Form → Option Form → Option Pattern
 named_from place parts (Some (f.Type ty)) = typed_binding_of place parts

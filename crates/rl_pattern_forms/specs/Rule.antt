@@ -2,7 +2,7 @@
 use Rattle.std.specs.Prelude.{ℕ, ◌==◌, List, Option, None, if◌then◌else◌}
 use Rattle.std.specs.Option.{option_map}
 use Rattle.rl_base.specs.declared.place.Place.{Place}
-use Rattle.rl_syntax.specs.declared.rules.TheConstants.{PATTERN, PLAIN_PATTERN, PATTERN_ELEMENT}
+use Rattle.rl_phrase_table.specs.declared.rules.TheConstants.{PATTERN, PLAIN_PATTERN, PATTERN_ELEMENT}
 use Rattle.rl_forms.specs.declared.form.Form.{Form}
 use Rattle.rl_forms.specs.declared.form.Form.TheVariants as f
 use Rattle.rl_pattern_forms.specs.Named.{named_of}

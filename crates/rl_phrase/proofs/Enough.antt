@@ -9,14 +9,9 @@ use Rattle.rl_phrase.specs.declared.table.Rule.{Rule}
 use Rattle.rl_phrase.specs.declared.table.Form.{Form}
 use Rattle.rl_phrase.specs.declared.table.Form.TheVariants.{Term, Link, Named, Seq, Choice, Star, Plus, Opt, Not}
 use Rattle.rl_phrase.specs.Tree.{Trees, Token, none, ◌then◌, only}
-use Rattle.rl_phrase.specs.Phr.{Outcome, Fails, Gives, after, and_then, or_else, in_turn, first_of_rows, optional, negated, again, node_of, named, terminal, of_form, of_rule, phr}
+use Rattle.rl_phrase.specs.Phr.{Outcome, Fails, Gives, after, and_then, or_else, in_turn, first_of_rows, optional, negated, again, node_of, named, terminal, of_form, of_rule, phr, levels}
 use Rattle.rl_phrase.specs.LeftRecursion.{CanBeEmpty, itself, link, choice, parts, Begins, BeginsForm, HasNoLeftRecursion}
 use Rattle.rl_phrase.proofs.Walks.{IsShort, all_short, short_next}
-
--- how many levels are enough, where this many tokens are left
-abbrev pub enough : ℕ → ℕ → ℕ
-enough count zero = suc count
-enough count (suc left) = enough count left + suc count
 
 module _ (tokens : Tokens) (rules : List Rule) (bound : ℕ) (all : length tokens ≤ bound) where
   -- it goes on to a token from k on, and to k itself only under E
@@ -199,18 +194,18 @@ module _ (tokens : Tokens) (rules : List Rule) (bound : ℕ) (all : length token
         row (slice_get rules row) refl
         (λ mid h. at_token b k within later d mid (short_next rules none row mid d s h))))
 
-    known : (left k : ℕ) → k ≤ bound → bound ≤ k + left → (row : ℕ) → Known (enough (length rules) left) row k
+    known : (left k : ℕ) → k ≤ bound → bound ≤ k + left → (row : ℕ) → Known (levels (length rules) left) row k
     known zero k w e row =
         under (0 + suc (length rules)) (suc (length rules)) _ _ k _ _ (omega arith) (λ n le. refl) (λ x. x)
         (at_token 0 k w (λ row' k' lt w'. absurd (omega arith)) (suc (length rules)) row (all_short rules none row))
     known (suc left) k w e row =
-        at_token (enough (length rules) left) k w (λ row' k' lt w'. known left k' w' (omega arith) row') (suc (length rules)) row (all_short rules none row)
+        at_token (levels (length rules) left) k w (λ row' k' lt w'. known left k' w' (omega arith) row') (suc (length rules)) row (all_short rules none row)
 
 module _ (tokens : Tokens) (rules : List Rule) (none : HasNoLeftRecursion rules) where
   -- what a row gives at a token, which enough levels tell
   pub known_outcome : (row at : ℕ) → Outcome
   known_outcome row at = (known tokens rules (at + length tokens) (omega arith) none (length tokens) at (omega arith) (omega arith) row).outcome
 
-  pub known_tells : (row at n : ℕ) → enough (length rules) (length tokens) ≤ n → phr tokens rules n row at ≡ Some (known_outcome row at)
+  pub known_tells : (row at n : ℕ) → levels (length rules) (length tokens) ≤ n → phr tokens rules n row at ≡ Some (known_outcome row at)
   unfolding known_outcome
   known_tells row at = (known tokens rules (at + length tokens) (omega arith) none (length tokens) at (omega arith) (omega arith) row).tells

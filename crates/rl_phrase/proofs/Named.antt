@@ -8,14 +8,16 @@ use Rattle.rl_phrase.specs.declared.tree.Phrase.{Phrase}
 use Rattle.rl_phrase.specs.declared.phrase.PhraseFault.{PhraseFault}
 use Rattle.rl_phrase.specs.declared.phrase.PhraseFault.TheVariants.{Stopped, TooDeep, OutOfMemory}
 use Rattle.rl_phrase.specs.declared.search.Ending.{Ending}
-use Rattle.rl_phrase.specs.declared.search.Ending.TheVariants.{Found}
+use Rattle.rl_phrase.specs.declared.search.Ending.TheVariants.{Failed, Found}
 use Rattle.rl_phrase.specs.declared.steps.Step.{Step}
 use Rattle.rl_phrase.specs.Tree.{Tree, Trees, Token, Node, none, more, only}
-use Rattle.rl_phrase.specs.Phr.{Outcome, Fails, Gives, Phr, phr, in_turn, named, node_of, of_rule, of_form}
+use Rattle.rl_phrase.specs.Phr.{Outcome, Fails, Gives, Phr, phr, in_turn, named, node_of, of_rule, of_form, outcome_of}
 use Rattle.rl_phrase.specs.Steps.{tree_steps, steps_of}
 use Rattle.rl_phrase.specs.Search.{Shows}
 use Rattle.rl_phrase.specs.Depth.{first_below}
+use Rattle.rl_phrase.specs.LeftRecursion.{HasNoLeftRecursion}
 use Rattle.rl_phrase.specs.Answer.{IsNamed, GivesTree, AnswersTree, Answers}
+use Rattle.rl_phrase.proofs.Determined.{outcome_is}
 
 pub record IsNode (tree : Tree) : Type 0 where
   pub rule : ℕ
@@ -42,8 +44,8 @@ pub record FoundNode (tokens : Tokens) (rules : List Rule) (row : ℕ) (steps : 
   pub gives : GivesTree tokens rules row tree
   pub are : steps ≡ tree_steps tree
 
-pub found_node : (tokens : Tokens) (rules : List Rule) (row : ℕ) (steps : List Step) (ts : Trees) (next far : ℕ) → IsNamed rules row → Phr tokens rules row 0 (Gives ts next far) → steps ≡ steps_of ts → FoundNode tokens rules row steps
-found_node tokens rules row steps ts next far is p e =
+pub found_node : (tokens : Tokens) (rules : List Rule) (row : ℕ) (steps : List Step) (ts : Trees) (next far : ℕ) → IsNamed rules row → HasNoLeftRecursion rules → Phr tokens rules row 0 (Gives ts next far) → steps ≡ steps_of ts → FoundNode tokens rules row steps
+found_node tokens rules row steps ts next far is free p e =
     let rule = is.0 in
     let n = p.enough in
     let tells : of_rule tokens (phr tokens rules n) row (slice_get rules row) 0 ≡ Some (Gives ts next far) = p.tells (suc n) (omega arith) in
@@ -53,14 +55,17 @@ found_node tokens rules row steps ts next far is p e =
     record {
       tree = one.0;
       node = one.1;
-      gives = (next, far, subst (λ us. Phr tokens rules row 0 (Gives us next far)) one.2 p);
+      gives = (next, far, outcome_is tokens rules row (Gives ts next far) free p ∙ ap (λ us. Gives us next far) one.2);
       are = e ∙ ap steps_of one.2 ∙ append-nil (tree_steps one.0);
     }
 
-pub shown_node : (tokens : Tokens) (rules : List Rule) (row : ℕ) (steps : Vec Step Global) (at : ℕ) (e : Ending) → IsNamed rules row → Shows tokens rules row e → e ≡ Found steps at → FoundNode tokens rules row steps.items
-shown_node tokens rules row steps at e is s q =
+pub shown_node : (tokens : Tokens) (rules : List Rule) (row : ℕ) (steps : Vec Step Global) (at : ℕ) (e : Ending) → IsNamed rules row → HasNoLeftRecursion rules → Shows tokens rules row e → e ≡ Found steps at → FoundNode tokens rules row steps.items
+shown_node tokens rules row steps at e is free s q =
     let t = subst (λ x. Shows tokens rules row x) q s in
-    found_node tokens rules row steps.items t.0 at t.1 is t.2 t.3
+    found_node tokens rules row steps.items t.0 at t.1 is free t.2 t.3
+
+pub shown_failure : (tokens : Tokens) (rules : List Rule) (row far : ℕ) (e : Ending) → HasNoLeftRecursion rules → Shows tokens rules row e → e ≡ Failed far → outcome_of tokens rules row ≡ Fails far
+shown_failure tokens rules row far e free s q = outcome_is tokens rules row (Fails far) free (subst (λ x. Shows tokens rules row x) q s)
 
 pub answered : (tokens : Tokens) (rules : List Rule) (row : ℕ) (tree : Tree) (result : Result Phrase PhraseFault) → GivesTree tokens rules row tree → AnswersTree tree result → Answers tokens rules row result
 answered tokens rules row tree (Ok p) g a = (subst (λ t. GivesTree tokens rules row t) (sym a.0) g, subst (λ t. first_below t 1000 ≡ None) (sym a.0) a.1)

@@ -4,12 +4,12 @@ use Rattle.std.proofs.lemmas.Option.{same_Some}
 use Rattle.rl_phrase.specs.Terminals.{Tokens}
 use Rattle.rl_phrase.specs.declared.table.Rule.{Rule}
 use Rattle.rl_phrase.specs.Tree.{Tree, Trees}
-use Rattle.rl_phrase.specs.Phr.{Outcome, Fails, Gives, Phr}
+use Rattle.rl_phrase.specs.Phr.{Outcome, Fails, Gives, Phr, levels}
 use Rattle.rl_phrase.specs.LeftRecursion.{HasNoLeftRecursion}
 use Rattle.rl_phrase.specs.Machine.{onto, Pending, State, Calling, Going, turn, Path, done}
 use Rattle.rl_phrase.specs.State.{Leads}
 use Rattle.rl_phrase.proofs.Follows.{Does, Goes, cost, follows}
-use Rattle.rl_phrase.proofs.Enough.{enough, known_outcome, known_tells}
+use Rattle.rl_phrase.proofs.Enough.{known_outcome, known_tells}
 
 abbrev pub end_or : Option State → State → (State → Option State) → Option State
 end_or None state go = Some state
@@ -70,7 +70,7 @@ module _ (tokens : Tokens) (rules : List Rule) where
 
   -- a number of turns that is enough, from a row at the first token
   abbrev pub most_turns : ℕ → ℕ
-  most_turns row = suc (cost tokens rules (enough (length rules) (length tokens)) row)
+  most_turns row = suc (cost tokens rules (levels (length rules) (length tokens)) row)
 
   abbrev pub start_at : ℕ → State
   start_at row = Calling row 0 [] [] 0
@@ -87,7 +87,7 @@ module _ (tokens : Tokens) (rules : List Rule) where
 
   pub start_ends : HasNoLeftRecursion rules → (row : ℕ) → Ends row (start_at row)
   start_ends none row =
-      let n = enough (length rules) (length tokens) in
+      let n = levels (length rules) (length tokens) in
       let o = known_outcome tokens rules none row 0 in
       let tells = known_tells tokens rules none row 0 in
       let g : Goes tokens rules (cost tokens rules n row) 0 (start_at row) (done o [] [] 0) =

@@ -8,13 +8,13 @@ use Rattle.rl_phrase.specs.declared.table.Rule.{Rule}
 use Rattle.rl_phrase.specs.declared.table.Form.{Form}
 use Rattle.rl_phrase.specs.declared.table.Form.TheVariants.{Term, Link, Named, Seq, Choice, Star, Plus, Opt, Not}
 use Rattle.rl_phrase.specs.Tree.{Tree, Token, only}
-use Rattle.rl_phrase.specs.Phr.{Outcome, Fails, Gives, Phr, phr, in_turn, named, node_of, of_rule}
+use Rattle.rl_phrase.specs.Phr.{Outcome, Fails, Gives, Phr, phr, in_turn, named, node_of, of_rule, levels}
 use Rattle.rl_phrase.specs.LeftRecursion.{HasNoLeftRecursion}
 use Rattle.rl_phrase.specs.Machine.{onto, turned, Pending, Parts, Choices, Naming, Turns, Optional, Negated, State, Calling, Going, Failing, called, called_form, called_terminal, succeeded, failed, turn, depth, Path, done}
 use Rattle.rl_phrase.specs.State.{Leads}
 use Rattle.rl_phrase.specs.Awaits.{named_outcome, Awaited, Awaits, IsOnTheWay}
 use Rattle.rl_phrase.proofs.Follows.{turned-onto, Does, Goes, cost, parts_cost, parts_do, follows, lower}
-use Rattle.rl_phrase.proofs.Enough.{enough, known_outcome, known_tells}
+use Rattle.rl_phrase.proofs.Enough.{known_outcome, known_tells}
 
 depth-done : (o : Outcome) (fs : List Pending) (ps : List Tree) (far : ℕ) → depth (done o fs ps far) ≡ length fs
 depth-done (Fails f) fs ps far = refl
@@ -61,7 +61,7 @@ module _ (tokens : Tokens) (rules : List Rule) where
   begun : HasNoLeftRecursion rules → (row at first count : ℕ) (ps : List Tree) (far : ℕ) (fs : List Pending) → slice_get rules row ≡ Some (record { form = Named; first = first; count = count })
       → Awaited tokens rules (Going at (Parts first (first + count) ∷ Naming row at ps far ∷ fs) [] 0) row at ps far fs
   begun none row at first count ps far fs e =
-      let n = enough (length rules) (length tokens) in
+      let n = levels (length rules) (length tokens) in
       let m = phr tokens rules n in
       let o = known_outcome tokens rules none row at in
       let tells : of_rule tokens m row (slice_get rules row) at ≡ Some o = known_tells tokens rules none row at (suc n) (omega arith) in

@@ -1,4 +1,4 @@
--- What the phrase of a table is.
+-- What the phrase of a table without left recursion is.
 use Rattle.std.specs.Prelude.{◌≡◌, ℕ, List, Some, None, Result, Ok, Err, slice_get}
 use Rattle.rl_phrase.specs.Terminals.{Tokens}
 use Rattle.rl_phrase.specs.declared.table.Rule.{Rule}
@@ -7,7 +7,7 @@ use Rattle.rl_phrase.specs.declared.tree.Phrase.{Phrase}
 use Rattle.rl_phrase.specs.declared.phrase.PhraseFault.{PhraseFault}
 use Rattle.rl_phrase.specs.declared.phrase.PhraseFault.TheVariants.{Stopped, TooDeep, OutOfMemory}
 use Rattle.rl_phrase.specs.Tree.{Tree, only}
-use Rattle.rl_phrase.specs.Phr.{Fails, Gives, Phr}
+use Rattle.rl_phrase.specs.Phr.{Fails, Gives, outcome_of}
 use Rattle.rl_phrase.specs.Depth.{first_below}
 use Rattle.rl_phrase.specs.View.{view}
 
@@ -23,11 +23,11 @@ AnswersTree tree (Err (Stopped token)) = ⊥
 
 -- the row gives this tree
 abbrev pub GivesTree : Tokens → List Rule → ℕ → Tree → Type 0
-GivesTree tokens rules row tree = (next far : ℕ) × Phr tokens rules row 0 (Gives (only tree) next far)
+GivesTree tokens rules row tree = (next far : ℕ) × (outcome_of tokens rules row ≡ Gives (only tree) next far)
 
 -- The phrase is what the row gives. It stops where the row fails.
 abbrev pub Answers : Tokens → List Rule → ℕ → Result Phrase PhraseFault → Type 0
 Answers tokens rules row (Ok phrase) = GivesTree tokens rules row (view phrase) × (first_below (view phrase) 1000 ≡ None)
-Answers tokens rules row (Err (Stopped token)) = Phr tokens rules row 0 (Fails token)
+Answers tokens rules row (Err (Stopped token)) = outcome_of tokens rules row ≡ Fails token
 Answers tokens rules row (Err (TooDeep token)) = (tree : Tree) × GivesTree tokens rules row tree × (first_below tree 1000 ≡ Some token)
 Answers tokens rules row (Err OutOfMemory) = Unit {0}

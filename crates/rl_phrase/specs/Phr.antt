@@ -1,5 +1,5 @@
 -- What a row of a table gives at a token.
-use Rattle.std.specs.Prelude.{◌≡◌, ℕ, zero, suc, ◌+◌, ◌≤◌, max, nat_eq, List, Option, Some, None, if◌then◌else◌, slice_get}
+use Rattle.std.specs.Prelude.{◌≡◌, ℕ, zero, suc, ◌+◌, ◌≤◌, max, nat_eq, List, Option, Some, None, if◌then◌else◌, length, slice_get}
 use Rattle.rl_tokens.specs.Token as lexed
 use Rattle.rl_phrase.specs.Terminals.{Tokens, is_terminal}
 use Rattle.rl_phrase.specs.declared.table.Rule.{Rule}
@@ -102,3 +102,17 @@ phr tokens rules (suc n) row token = of_rule tokens (phr tokens rules n) row (sl
 pub record Phr (tokens : Tokens) (rules : List Rule) (row token : ℕ) (outcome : Outcome) : Type 0 where
   pub enough : ℕ
   pub tells : (n : ℕ) → enough ≤ n → phr tokens rules n row token ≡ Some outcome
+
+-- as many levels of rows as a table without left recursion can need, where this many tokens are left
+abbrev pub levels : (rows left : ℕ) → ℕ
+levels rows zero = suc rows
+levels rows (suc left) = levels rows left + suc rows
+
+-- enough levels tell an outcome
+abbrev pub told : Option Outcome → Outcome
+told None = Fails 0
+told (Some outcome) = outcome
+
+-- what a row of a table without left recursion gives at the first token
+unfoldable pub outcome_of : Tokens → List Rule → ℕ → Outcome
+outcome_of tokens rules row = told (phr tokens rules (levels (length rules) (length tokens)) row 0)

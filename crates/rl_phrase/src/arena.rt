@@ -1,4 +1,4 @@
-// The trees that were put together so far, in one list that only grows.
+//! The trees that were put together so far, in one list that only grows.
 
 ghost use Rattle.std.specs.Prelude.{◌≡◌, suc, ◌≤◌, [], ◌∷◌, length, IfOk};
 ghost use Rattle.rl_phrase.specs.Arena.{IsOlder, Reads, parts_in};
@@ -6,7 +6,7 @@ ghost use Rattle.rl_phrase.specs.Arena.{IsOlder, Reads, parts_in};
 use std::alloc::{AllocError, Global};
 use std::marker::Model;
 
-/// A tree: a token, or the node of a row, from a token to another, with the list of its parts.
+// A tree: a token, or the node of a row, from a token to another, with the list of its parts.
 #[derive(Clone, Copy)]
 pub enum Item {
     Token(u32),
@@ -18,15 +18,15 @@ pub enum Item {
     },
 }
 
-/// A tree behind the ones that came before it. A list is named by the number of its last cell, counted from 1,
-/// and is empty at 0. So a list can go on in more than one way, and a tree can stand in more than one list.
+// A tree behind the ones that came before it. A list is named by the number of its last cell, counted from 1,
+// and is empty at 0. So a list can go on in more than one way, and a tree can stand in more than one list.
 #[derive(Clone, Copy)]
 pub struct Cell {
     pub before: u32,
     pub item: Item,
 }
 
-/// Cells, of which contracts see the list from the newest on.
+// Cells, of which contracts see the list from the newest on.
 #[derive(Drop)]
 pub struct Arena {
     cells: Vec<Cell>,
@@ -53,7 +53,7 @@ impl Arena {
         }
     }
 
-    /// Adds a cell, and gives its number.
+    // Adds a cell, and gives its number.
     pub fn add(&mut self, cell: Cell) -> Result<u32, AllocError>
         requires { IsOlder cell (length self.old) }
         ensures { IfOk result (λ number. (number ≡ suc (length self.old)) × (self.new ≡ cell ∷ self.old)) }
@@ -68,7 +68,7 @@ impl Arena {
         Ok(before + 1)
     }
 
-    /// The last cell of a list, if it has one.
+    // The last cell of a list, if it has one.
     pub fn last(&self, list: u32) -> Option<Cell>
         requires { list ≤ length self.now }
         ensures { Reads self.now list result }
@@ -79,7 +79,7 @@ impl Arena {
         Some(self.cells[list as usize - 1])
     }
 
-    /// How many trees a list has.
+    // How many trees a list has.
     pub fn count(&self, list: u32) -> Result<usize, AllocError>
         requires { list ≤ length self.now }
         ensures { IfOk result (λ n. n ≡ length (parts_in self.now list)) }

@@ -1,4 +1,4 @@
-// From steps to a tree.
+//! From steps to a tree.
 
 ghost use Rattle.std.specs.Prelude.{◌≡◌, ◌≤◌, [], ◌∷◌, map, IfOk, OnOk, vec_len};
 ghost use Rattle.rl_phrase.specs.Tree.{Tree, Node};
@@ -12,7 +12,7 @@ use crate::steps::Step;
 use crate::tree::{Part, Phrase};
 use std::alloc::{AllocError, Global};
 
-/// A tree may be this high.
+// A tree may be this high.
 pub const LIMIT: usize = 1000;
 
 fn node(rule: u32, from: u32, to: u32, parts: Vec<Part>) -> Part
@@ -46,7 +46,7 @@ fn add(parts: &mut Vec<Part>, step: Step) -> Result<(), AllocError>
     Ok(())
 }
 
-/// The tree of some steps.
+// The tree of some steps.
 pub fn build(alloc: Global, steps: &[Step]) -> Result<Vec<Part>, AllocError>
     requires { (t : Tree) × (steps.now ≡ tree_steps t) }
     ensures { IfOk result (λ parts. (t : Tree) → steps.now ≡ tree_steps t → map tree_of parts.items ≡ t ∷ []) }
@@ -89,7 +89,7 @@ fn found(step: Step, depth: usize, before: Option<u32>) -> Option<u32>
     }
 }
 
-/// The first token of the leftmost node that is too deep, if there is one.
+// The first token of the leftmost node that is too deep, if there is one.
 pub fn too_deep(alloc: Global, steps: &[Step]) -> Result<Option<u32>, AllocError>
     ensures { IfOk result (λ deep. (t : Tree) → steps.now ≡ tree_steps t → deep ≡ first_below t 1000) }
 {

@@ -1,6 +1,6 @@
 //! With which tokens rows may begin, so that rows are passed over that can't.
 
-ghost use Rattle.std.specs.Prelude.{◌≡◌, ◌≤◌, true, false, length, IfOk};
+ghost use Rattle.std.specs.Prelude.{◌≡◌, ◌≤◌, ◌↔◌, true, false, length, IfOk};
 ghost use Rattle.rl_phrase.specs.Firsts.{AreFirsts, CannotBegin, LacksKind, anything, bit, covers, either, first_at, first_of_choice, first_of_parts, first_of_rule, is_covered, kinds_of_terminal, or_empty, then_first, unless_empty};
 
 use crate::table::{Form, Rule};
@@ -8,7 +8,7 @@ use rl_tokens::Tokens;
 use rl_tokens::terminal::{ASSOC, BRACKET, ID, LEFT, LOWER_ID, RIGHT, START, UPPER_ID};
 use std::alloc::{AllocError, Global};
 
-/// The kinds of the tokens with which a row may begin, as bits, and whether it may take nothing.
+// The kinds of the tokens with which a row may begin, as bits, and whether it may take nothing.
 #[derive(Clone, Copy)]
 pub struct First {
     pub kinds: u128,
@@ -187,7 +187,7 @@ fn grow(rules: &[Rule], firsts: &mut Vec<First>) {
 
 // Whether what is known of the rows follows from what is known of them.
 fn are_firsts(rules: &[Rule], firsts: &[First]) -> bool
-    ensures { result ≡ true → AreFirsts rules.now firsts.now }
+    ensures { result ≡ true ↔ AreFirsts rules.now firsts.now }
 {
     let mut row = 0;
     while row < firsts.len() && is_covered(rules, firsts, row) {
@@ -208,7 +208,7 @@ fn nothing_yet(alloc: Global, rules: &[Rule]) -> Result<Vec<First>, AllocError> 
     Ok(firsts)
 }
 
-/// With which tokens the rows of the table may begin.
+// With which tokens the rows of the table may begin.
 pub fn firsts(alloc: Global, rules: &[Rule]) -> Result<Vec<First>, AllocError>
     ensures { IfOk result (λ firsts. AreFirsts rules.now firsts.items) }
 {
@@ -223,14 +223,14 @@ pub fn firsts(alloc: Global, rules: &[Rule]) -> Result<Vec<First>, AllocError>
 }
 
 fn has_kind(first: First, kind: u32) -> bool
-    ensures { result ≡ false → LacksKind first kind }
+    ensures { result ≡ false ↔ LacksKind first kind }
 {
     kind >= 128 || first.kinds >> kind & 1 == 1
 }
 
-/// Whether the row is one that takes something, and the token none with which it begins.
+// Whether the row is one that takes something, and the token none with which it begins.
 pub fn cannot_begin(firsts: &[First], tokens: &Tokens, row: u64, token: u32) -> bool
-    ensures { result ≡ true → CannotBegin tokens.now firsts.now row token }
+    ensures { result ≡ true ↔ CannotBegin tokens.now firsts.now row token }
 {
     if token >= tokens.len() {
         return false;

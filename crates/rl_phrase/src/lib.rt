@@ -19,5 +19,3 @@ mod terminals;
 pub mod tree;
 mod turn;
 mod unfold;
-
-pub use rl_tokens::{TokenFault, Tokens, terminal, tokens};

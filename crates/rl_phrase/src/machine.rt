@@ -1,6 +1,6 @@
-// The machine: one loop over a stack of frames.
+//! The machine: one loop over a stack of frames.
 
-ghost use Rattle.std.specs.Prelude.{◌≡◌, ◌⊎◌, ℕ, ◌≤◌, List, [], ◌∷◌, true, length, slice_get, OnOk, IfOk};
+ghost use Rattle.std.specs.Prelude.{◌≡◌, ◌⊎◌, ℕ, ◌≤◌, ◌↔◌, List, [], ◌∷◌, true, length, slice_get, OnOk, IfOk};
 ghost use Rattle.std.specs.List.{All};
 ghost use Rattle.rl_phrase.specs.declared.arena.Cell.{Cell};
 ghost use Rattle.rl_phrase.specs.LeftRecursion.{HasNoLeftRecursion};
@@ -52,7 +52,7 @@ fn name(arena: &Arena, parts: u32, row: u32, from: u32, at: u32) -> Item
     }
 }
 
-/// Over how few frames a turn of a repetition has what is before it forgotten.
+// Over how few frames a turn of a repetition has what is before it forgotten.
 const SHALLOW: usize = 8;
 
 // Near the stack's bottom, where a turn of a repetition has ended, hardly anything before it will be asked again: all is forgotten.
@@ -108,7 +108,7 @@ fn remember_failure(memory: &mut Memory, frame: Frame, far: u32) -> Result<(), A
 }
 
 fn is_same_item(a: Item, b: Item) -> bool
-    ensures { result ≡ true → a ≡ b }
+    ensures { result ≡ true ↔ a ≡ b }
 {
     match (a, b) {
         (Item::Token(a), Item::Token(b)) => a == b,
@@ -131,7 +131,7 @@ fn is_same_item(a: Item, b: Item) -> bool
 }
 
 fn is_same(a: Cell, b: Cell) -> bool
-    ensures { result ≡ true → a ≡ b }
+    ensures { result ≡ true ↔ a ≡ b }
 {
     a.before == b.before && is_same_item(a.item, b.item)
 }
@@ -175,8 +175,8 @@ fn push_some(frames: &mut Stack<Frame>, frame: Option<Frame>) -> Result<(), Allo
     }
 }
 
-/// The state of the machine: the task and the frames, the list of trees of the row at hand, and the furthest token at
-/// which a terminal was tried in vain since the innermost named row began.
+// The state of the machine: the task and the frames, the list of trees of the row at hand, and the furthest token at
+// which a terminal was tried in vain since the innermost named row began.
 #[derive(Drop)]
 pub struct Machine {
     pub task: Task,
@@ -410,7 +410,7 @@ impl Machine {
         Ok(())
     }
 
-    /// Goes on by one turn or by the turns whose outcome is remembered, unless it is at the end.
+    // Goes on by one turn or by the turns whose outcome is remembered, unless it is at the end.
     pub fn turn(
         &mut self,
         tokens: &Tokens,

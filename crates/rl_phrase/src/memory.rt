@@ -1,4 +1,4 @@
-// What named rows gave.
+//! What named rows gave.
 
 ghost use Rattle.std.specs.Prelude.{◌≡◌, ◌⊎◌, suc, ◌+◌, ◌<◌, ◌^◌, [], ◌∷◌, ◌++◌, map, length, IfSome, IfOk, OnOk};
 ghost use Rattle.std.specs.List.{IsAmong};
@@ -8,17 +8,17 @@ use crate::arena::Item;
 use std::alloc::{AllocError, Global};
 use std::marker::Model;
 
-/// For how many entries, and as many tokens, room is kept where all are forgotten.
+// For how many entries, and as many tokens, room is kept where all are forgotten.
 const KEPT: usize = 1024;
 
-/// What a row gives: how far it came in vain, and where it succeeds its tree and the next token.
+// What a row gives: how far it came in vain, and where it succeeds its tree and the next token.
 #[derive(Clone, Copy)]
 pub enum Given {
     Failure { far: u32 },
     Success { item: Item, next: u32, far: u32 },
 }
 
-/// What a row gives at a token.
+// What a row gives at a token.
 #[derive(Clone, Copy)]
 pub struct Entry {
     pub row: u32,
@@ -26,7 +26,7 @@ pub struct Entry {
     pub given: Given,
 }
 
-/// An entry, and the number of the link that was added before it at the same token. Numbers count from 1, and 0 is none.
+// An entry, and the number of the link that was added before it at the same token. Numbers count from 1, and 0 is none.
 #[derive(Clone, Copy)]
 struct Link {
     entry: Entry,
@@ -78,7 +78,7 @@ fn put_before(alloc: Global, columns: &[u32], more: usize) -> Result<Vec<u32>, A
     Ok(all)
 }
 
-/// Entries, of which contracts see the list. Each token from `base` on has a column, the number of its last link.
+// Entries, of which contracts see the list. Each token from `base` on has a column, the number of its last link.
 #[derive(Drop)]
 pub struct Memory {
     alloc: Global,
@@ -108,7 +108,7 @@ impl Memory {
         }
     }
 
-    /// Forgets all. Little room is kept.
+    // Forgets all. Little room is kept.
     pub fn forget(&mut self)
         ensures { self.new ≡ [] }
     {
@@ -121,7 +121,7 @@ impl Memory {
         }
     }
 
-    /// What is remembered of a row at a token.
+    // What is remembered of a row at a token.
     pub fn recall(&self, row: u32, at: u32) -> Option<Entry>
         ensures { IfSome result (λ entry. (entry.row ≡ row) × (entry.at ≡ at) × IsAmong self.now entry) }
     {
@@ -171,7 +171,7 @@ impl Memory {
         Ok(())
     }
 
-    /// Remembers what a row gives at a token.
+    // Remembers what a row gives at a token.
     pub fn remember(&mut self, entry: Entry) -> Result<(), AllocError>
         ensures { OnOk result (IsOneMore entry self.old self.new) }
     {

@@ -1,4 +1,4 @@
-// The phrase of a table.
+//! The phrase of a table.
 
 ghost use Rattle.std.specs.Prelude.{◌≡◌, ℕ, [], ◌∷◌, map, length};
 ghost use Rattle.rl_phrase.specs.declared.phrase.PhraseFault.TheVariants.{OutOfMemory};

@@ -1,3 +1,5 @@
+//! Phrases of small tables.
+
 ghost use Rattle.std.specs.Prelude.{◌≡◌, ◌≤◌, ◌^◌, true, length};
 ghost use Rattle.rl_phrase.specs.Answer.{IsNamed};
 

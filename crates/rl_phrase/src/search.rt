@@ -1,4 +1,4 @@
-// The loop.
+//! The loop over the machine's turns.
 
 ghost use Rattle.std.specs.Prelude.{◌≡◌, IfOk};
 ghost use Rattle.rl_phrase.specs.Search.{Shows};
@@ -16,14 +16,14 @@ use crate::unfold::unfold;
 use rl_tokens::Tokens;
 use std::alloc::{AllocError, Global};
 
-/// What the machine ends with.
+// What the machine ends with.
 #[derive(Drop)]
 pub enum Ending {
     Failed(u32),
     Found(Vec<Step>, u32),
 }
 
-/// What a row gives at the first token.
+// What a row gives at the first token.
 pub fn run_machine(
     alloc: Global,
     tokens: &Tokens,

@@ -1,11 +1,11 @@
-// A stack on the heap.
+//! A stack on the heap.
 
 ghost use Rattle.std.specs.Prelude.{◌≡◌, List, [], ◌∷◌, reverse, length, OnOk, MatchOption};
 
 use std::alloc::{AllocError, Global};
 use std::marker::Model;
 
-/// Items, of which contracts see the list from the top on.
+// Items, of which contracts see the list from the top on.
 #[derive(Drop)]
 pub struct Stack<T> {
     items: Vec<T>,

@@ -1,6 +1,6 @@
-// Trees as flat steps.
+//! Trees as flat steps.
 
-/// A step of a tree in post-order: a token, or the node of a row, from a token up to another, of the last `count` trees.
+// A step of a tree in post-order: a token, or the node of a row, from a token up to another, of the last `count` trees.
 #[derive(Clone, Copy)]
 pub enum Step {
     Leaf(u32),

@@ -1,4 +1,4 @@
-// A table of rules.
+//! A table of rules.
 
 /// What a row of the table is.
 #[derive(Clone, Copy)]

@@ -7,7 +7,7 @@ ghost use Rattle.rl_phrase.specs.Terminals.{is_word, is_terminal_of, is_terminal
 use rl_tokens::Tokens;
 use rl_tokens::terminal::{ASSOC, BRACKET, ID, LEFT, LOWER_ID, RIGHT, START, UPPER_ID};
 
-/// Whether a text is the word of a terminal whose word is also a name.
+// Whether a text is the word of a terminal whose word is also a name.
 fn is_word(text: &str, terminal: u32) -> bool
     ensures { result ≡ is_word text.now terminal }
 {
@@ -26,7 +26,7 @@ fn is_word(text: &str, terminal: u32) -> bool
     }
 }
 
-/// Whether a token of this kind and text is a terminal.
+// Whether a token of this kind and text is a terminal.
 fn is_terminal_of(kind: u32, text: &str, terminal: u32) -> bool
     ensures { result ≡ is_terminal_of kind text.now terminal }
 {
@@ -35,7 +35,7 @@ fn is_terminal_of(kind: u32, text: &str, terminal: u32) -> bool
         || kind == LOWER_ID && is_word(text, terminal)
 }
 
-/// Whether a token is a terminal.
+// Whether a token is a terminal.
 pub fn is_terminal(tokens: &Tokens, at: u32, terminal: u32) -> bool
     requires { at < length tokens.now }
     ensures { option_map (λ token. is_terminal token terminal) (slice_get tokens.now at) ≡ Some result }

@@ -1,4 +1,4 @@
-// Phrases.
+//! Phrases: trees over tokens.
 
 /// A node of the tree: the number of its row, its first token, the token behind its last one, and its parts.
 #[derive(Drop)]

@@ -1,4 +1,4 @@
-// What one turn of the machine comes to.
+//! What one turn of the machine comes to.
 
 ghost use Rattle.std.specs.Prelude.{◌≡◌, ℕ, ◌≤◌, List};
 ghost use Rattle.rl_phrase.specs.declared.arena.Cell.{Cell};
@@ -11,34 +11,34 @@ ghost use Rattle.rl_phrase.specs.State.{frame_in, outcome_in, after_turn, Comes,
 use crate::arena::Item;
 use crate::memory::Given;
 
-/// Rows that are left.
+// Rows that are left.
 #[derive(Clone, Copy)]
 pub struct Rest {
     pub next: u64,
     pub end: u64,
 }
 
-/// Where to go back to: the token, and the list of trees.
+// Where to go back to: the token, and the list of trees.
 #[derive(Clone, Copy)]
 pub struct Mark {
     pub at: u32,
     pub parts: u32,
 }
 
-/// What is to be done where a row has succeeded or failed.
+// What is to be done where a row has succeeded or failed.
 #[derive(Clone, Copy)]
 pub enum Frame {
     Parts(Rest),
     Choices(Rest, Mark),
-    /// A named row has begun at the mark; `far` is how far the text had been tried before.
+    // A named row has begun at the mark; `far` is how far the text had been tried before.
     Naming { row: u32, mark: Mark, far: u32 },
-    /// A turn of a repetition has begun at the mark; it must not fail where it is the first of one or more.
+    // A turn of a repetition has begun at the mark; it must not fail where it is the first of one or more.
     Turns { rest: Rest, mark: Mark, must: bool },
     Optional(Mark),
     Negated(Mark),
 }
 
-/// What is to be done now.
+// What is to be done now.
 #[derive(Clone, Copy)]
 pub enum Task {
     Call { row: u64, at: u32 },
@@ -46,14 +46,14 @@ pub enum Task {
     Fail,
 }
 
-/// The list of trees from a turn on: one that is there, or one with a tree more.
+// The list of trees from a turn on: one that is there, or one with a tree more.
 #[derive(Clone, Copy)]
 pub enum Built {
     Same(u32),
     More(u32, Item),
 }
 
-/// What a turn comes to: the new task, up to two more frames, the trees, and how far the text was tried.
+// What a turn comes to: the new task, up to two more frames, the trees, and how far the text was tried.
 #[derive(Clone, Copy)]
 pub struct Turn {
     pub task: Task,
@@ -63,7 +63,7 @@ pub struct Turn {
     pub far: u32,
 }
 
-/// A turn to a task, with the same frames.
+// A turn to a task, with the same frames.
 pub fn to(task: Task, built: Built, far: u32) -> Turn
     ensures { result ≡ record { task = task; under = None; top = None; built = built; far = far } }
 {
@@ -76,7 +76,7 @@ pub fn to(task: Task, built: Built, far: u32) -> Turn
     }
 }
 
-/// A turn to a task, with one frame more.
+// A turn to a task, with one frame more.
 pub fn push(task: Task, top: Frame, built: Built, far: u32) -> Turn
     ensures { result ≡ record { task = task; under = None; top = Some top; built = built; far = far } }
 {
@@ -89,7 +89,7 @@ pub fn push(task: Task, top: Frame, built: Built, far: u32) -> Turn
     }
 }
 
-/// A turn to some rows, above a frame.
+// A turn to some rows, above a frame.
 pub fn begin(rest: Rest, at: u32, under: Frame, built: Built, far: u32) -> Turn
     ensures { result ≡ record { task = Task.Succeed at; under = Some under; top = Some (Frame.Parts rest); built = built; far = far } }
 {
@@ -102,7 +102,7 @@ pub fn begin(rest: Rest, at: u32, under: Frame, built: Built, far: u32) -> Turn
     }
 }
 
-/// A turn that goes on to the first of its rows at once, if it has one.
+// A turn that goes on to the first of its rows at once, if it has one.
 pub fn straight_on(turn: Turn) -> Turn
     ensures means { (tokens : Tokens) (rules : List Rule) (cells : List Cell) (frames : List Pending) → Comes tokens rules (after_turn cells turn frames) (after_turn cells result frames) }
     ensures within { (n : ℕ) → TurnWithin n turn → TurnWithin n result }
@@ -120,7 +120,7 @@ pub fn straight_on(turn: Turn) -> Turn
     }
 }
 
-/// A row whose outcome is remembered.
+// A row whose outcome is remembered.
 pub fn recalled(given: Given, parts: u32, far: u32) -> Turn
     ensures means { (cells : List Cell) (frames : List Pending) → after_turn cells result frames ≡ done (outcome_in cells given) frames (parts_in cells parts) far }
     ensures within { (n : ℕ) → parts ≤ n → GivenWithin n given → TurnWithin n result }
@@ -135,7 +135,7 @@ pub fn recalled(given: Given, parts: u32, far: u32) -> Turn
     }
 }
 
-/// After a failure the frame says what to do.
+// After a failure the frame says what to do.
 pub fn fail(frame: Frame, far: u32) -> Turn
     ensures means { (cells : List Cell) (frames : List Pending) → after_turn cells result frames ≡ failed (frame_in cells frame) frames far }
     ensures within { (n : ℕ) → FrameWithin n frame → TurnWithin n result }

@@ -1,4 +1,4 @@
-// From the arena to steps.
+//! From the arena to steps.
 
 ghost use Rattle.std.specs.Prelude.{◌≡◌, ◌≤◌, [], ◌∷◌, ◌++◌, length, IfOk, OnOk};
 ghost use Rattle.rl_phrase.specs.Arena.{parts_in, IsWithin};
@@ -60,7 +60,7 @@ fn unfold_list(
     }
 }
 
-/// The steps of the trees of a list.
+// The steps of the trees of a list.
 pub fn unfold(alloc: Global, arena: &Arena, list: u32) -> Result<Vec<Step>, AllocError>
     requires { list ≤ length arena.now }
     ensures { IfOk result (λ steps. steps.items ≡ steps_of (turned (parts_in arena.now list))) }

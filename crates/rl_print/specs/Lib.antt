@@ -1,2 +1,3 @@
-pub mod Escape
+-- How values are printed.
 pub mod Printed
+pub mod Escape

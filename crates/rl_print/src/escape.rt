@@ -16,7 +16,7 @@ pub(crate) enum Escapes {
     Backquoted,
 }
 
-/// What stands behind the backslash in place of a character that is escaped.
+// What stands behind the backslash in place of a character that is escaped.
 fn escape_of(escapes: Escapes, c: char) -> Option<char>
     ensures { result ≡ escape_of escapes c }
 {

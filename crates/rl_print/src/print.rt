@@ -50,7 +50,7 @@ fn show_tree(out: &mut String, tree: &Value) -> Result<(), AllocError>
     push_leaves(out, Escapes::Raw, tree)
 }
 
-/// Appends a value that is neither a text nor a tree as it is printed.
+// Appends a value that is neither a text nor a tree as it is printed.
 fn print_other(out: &mut String, v: &Value) -> Result<(), AllocError>
     requires text { ¬ (kind_of v.now ≡ k.Text) }
     requires tree { ¬ (kind_of v.now ≡ k.Tree) }
@@ -78,7 +78,7 @@ fn push_printed(out: &mut String, value: &Value) -> Result<(), AllocError>
     }
 }
 
-/// Appends the values inside one with a comma between two, and what opens and closes them.
+// Appends the values inside one with a comma between two, and what opens and closes them.
 #[cycle(print)]
 fn push_between(
     out: &mut String,
@@ -107,7 +107,7 @@ fn push_node(out: &mut String, value: &Value) -> Result<(), AllocError>
     }
 }
 
-/// Appends the values inside one with a comma between two.
+// Appends the values inside one with a comma between two.
 #[cycle(print)]
 fn push_all(out: &mut String, value: &Value) -> Result<(), AllocError>
     ensures { OnOk result (string_bytes out.new ≡ string_bytes out.old ++ printed_all (plains_of (kids value.now))) }
@@ -129,7 +129,7 @@ fn push_map(out: &mut String, value: &Value) -> Result<(), AllocError>
     out.push_str(")")
 }
 
-/// Appends the entries of a map with a comma between two.
+// Appends the entries of a map with a comma between two.
 #[cycle(print)]
 fn push_entries(out: &mut String, map: &Value) -> Result<(), AllocError>
     requires { kind_of map.now ≡ k.Map }
@@ -144,7 +144,7 @@ fn push_entries(out: &mut String, map: &Value) -> Result<(), AllocError>
     Ok(())
 }
 
-/// Appends a comma, unless what follows is the first.
+// Appends a comma, unless what follows is the first.
 fn push_comma(out: &mut String, place: u32) -> Result<(), AllocError>
     ensures { OnOk result (string_bytes out.new ≡ string_bytes out.old ++ comma_before place) }
 {

@@ -1,34 +1,16 @@
 -- The phrase that a search finds is what the definition says.
-use Rattle.std.proofs.Common.{◌≡◌, ℕ, zero, suc, ◌+◌, ◌≤◌, List, length, Some, None, Err, refl, sym, ◌∙◌, ap, subst, arith}
-use Rattle.rl_tokens.specs.Token.{Token}
+use Rattle.std.proofs.Common.{◌≡◌, ℕ, List, Some, None, Err, sym, ◌∙◌, ap, subst}
 use Rattle.rl_phrase.specs.Tree.{Tree, only}
-use Rattle.rl_phrase.specs.Phr.{Outcome, Fails, Gives, Phr, phr}
+use Rattle.rl_phrase.specs.Phr.{Fails, Gives, outcome_of}
 use Rattle.rl_phrase.specs.Depth.{first_below}
-use Rattle.rl_phrase.specs.LeftRecursion.{HasNoLeftRecursion}
-use Rattle.rl_phrase.specs.declared.table.Rule.{Rule}
-use Rattle.rl_phrase.proofs.Enough.{enough, known_outcome, known_tells}
-use Rattle.rl_phrase.proofs.Determined.{one}
-use Rattle.rl_syntax.specs.declared.rules.TheConstants.{MODULE, RULES}
+use Rattle.rl_phrase_table.specs.declared.rules.TheConstants.{MODULE, RULES}
 use Rattle.rl_reader.specs.declared.source.Source.{Source}
 use Rattle.rl_reader.specs.Source.{place_at}
 use Rattle.rl_phrase.specs.Answer.{Answers as PhraseAnswers}
 use Rattle.rl_phrase.specs.declared.phrase.PhraseFault.{PhraseFault}
 use Rattle.rl_phrase.specs.declared.phrase.PhraseFault.TheVariants as phrase_fault
 use Rattle.rl_reader.specs.declared.read.ReadFault.{ReadFault}
-use Rattle.rl_reader.specs.Read.{Answers, Refused, as_phrase_fault, levels, told, outcome_of, of_depth, of_outcome, of_source, of_tree}
-
-same_levels : (rows left : ℕ) → levels rows left ≡ enough rows left
-same_levels rows zero = refl
-same_levels rows (suc left) = ap (λ n. n + suc rows) (same_levels rows left)
-
-pub outcome_told : (tokens : List Token) (rules : List Rule) (row : ℕ) (o : Outcome) → HasNoLeftRecursion rules → Phr tokens rules row 0 o → outcome_of tokens rules row ≡ o
-unfolding outcome_of
-outcome_told tokens rules row o none p =
-    let known = known_outcome tokens rules none row 0 in
-    let tells : (n : ℕ) → enough (length rules) (length tokens) ≤ n → phr tokens rules n row 0 ≡ Some known = known_tells tokens rules none row 0 in
-    let same = same_levels (length rules) (length tokens) in
-    ap told (tells (levels (length rules) (length tokens)) (omega (arith, same)))
-    ∙ one tokens rules row 0 known o (record { enough = enough (length rules) (length tokens); tells = tells }) p
+use Rattle.rl_reader.specs.Read.{Answers, Refused, as_phrase_fault, of_depth, of_outcome, of_source, of_tree}
 
 pub found : (source : Source) (path name : List ℕ) (tree : Tree) (next far : ℕ) → outcome_of source.tokens RULES.now MODULE ≡ Gives (only tree) next far → first_below tree 1000 ≡ None → of_source source path name ≡ of_tree source path name tree
 unfolding of_source of_outcome
@@ -43,10 +25,9 @@ unfolding of_source of_outcome
 stopped source path name token e = ap (of_outcome source path name) e
 
 -- that tokens are no phrase is told as reading gives it
-pub phrase_told : (source : Source) (path name : List ℕ) → HasNoLeftRecursion RULES.now → (answer : PhraseFault) (r : ReadFault) → PhraseAnswers source.tokens RULES.now MODULE (Err answer) → r ≡ as_phrase_fault source answer → Answers (of_source source path name) (Err r)
-phrase_told source path name none (phrase_fault.Stopped token) r a e =
-    subst (λ x. Answers (of_source source path name) (Err x)) (sym e) (stopped source path name token (outcome_told source.tokens RULES.now MODULE (Fails token) none a))
-phrase_told source path name none (phrase_fault.TooDeep token) r a e =
-    let told = outcome_told source.tokens RULES.now MODULE (Gives (only a.0) a.1.0 a.1.1) none a.1.2 in
-    subst (λ x. Answers (of_source source path name) (Err x)) (sym e) (deep source path name a.0 a.1.0 a.1.1 token told a.2)
-phrase_told source path name none phrase_fault.OutOfMemory r a e = subst (λ x. Answers (of_source source path name) (Err x)) (sym e) tt
+pub phrase_told : (source : Source) (path name : List ℕ) (answer : PhraseFault) (r : ReadFault) → PhraseAnswers source.tokens RULES.now MODULE (Err answer) → r ≡ as_phrase_fault source answer → Answers (of_source source path name) (Err r)
+phrase_told source path name (phrase_fault.Stopped token) r a e =
+    subst (λ x. Answers (of_source source path name) (Err x)) (sym e) (stopped source path name token a)
+phrase_told source path name (phrase_fault.TooDeep token) r a e =
+    subst (λ x. Answers (of_source source path name) (Err x)) (sym e) (deep source path name a.0 a.1.0 a.1.1 token a.1.2 a.2)
+phrase_told source path name phrase_fault.OutOfMemory r a e = subst (λ x. Answers (of_source source path name) (Err x)) (sym e) tt

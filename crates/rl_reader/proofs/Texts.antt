@@ -4,9 +4,8 @@ use Rattle.std.specs.Option.{option_map}
 use Rattle.std.specs.Str.{chars, is_utf8}
 use Rattle.rl_base.specs.Decode.{text_of}
 use Rattle.rl_tokens.specs.Token.{Token}
-use Rattle.rl_tokens.specs.Fault.{leftmost}
+use Rattle.rl_tokens.specs.Fault.{leftmost, told as fault_told}
 use Rattle.rl_tokens.specs.Scan.{Answers as TokensAnswer, tokens_in}
-use Rattle.rl_tokens.specs.Told.{told as fault_told, told_is}
 use Rattle.rl_tokens.specs.declared.fault.TokenFault.{TokenFault}
 use Rattle.rl_tokens.specs.declared.fault.TokenFault.TheVariants.{BadCharacter, OpenString, OpenComment, WideNumber, BadEscape, OutOfMemory}
 use Rattle.rl_reader.specs.declared.read.ReadFault.{ReadFault}
@@ -18,20 +17,15 @@ use Rattle.rl_reader.specs.Read.{Refused, Answers, IsFaultOrMemory, as_fault, fi
 pub told_fault : (number : ℕ) (path name text : List ℕ) (answer : TokenFault) (r : ReadFault) → TokensAnswer (tokens_in text) (Err answer) → r ≡ as_fault text number answer → Answers (of_text number path name text) (Err r)
 unfolding of_text first_fault
 told_fault number path name text (BadCharacter o) r a e =
-    let s = ap (option_map fault_told) a.1 ∙ ap Some (told_is a.0 (BadCharacter o) a.2) in
-    subst (λ x. Answers (of_text number path name text) (Err x)) (sym e) (ap (λ x. of_fault x number path name text (tokens_in text).tokens) s)
+    subst (λ x. Answers (of_text number path name text) (Err x)) (sym e) (ap (λ x. of_fault x number path name text (tokens_in text).tokens) a)
 told_fault number path name text (OpenString o) r a e =
-    let s = ap (option_map fault_told) a.1 ∙ ap Some (told_is a.0 (OpenString o) a.2) in
-    subst (λ x. Answers (of_text number path name text) (Err x)) (sym e) (ap (λ x. of_fault x number path name text (tokens_in text).tokens) s)
+    subst (λ x. Answers (of_text number path name text) (Err x)) (sym e) (ap (λ x. of_fault x number path name text (tokens_in text).tokens) a)
 told_fault number path name text (OpenComment o) r a e =
-    let s = ap (option_map fault_told) a.1 ∙ ap Some (told_is a.0 (OpenComment o) a.2) in
-    subst (λ x. Answers (of_text number path name text) (Err x)) (sym e) (ap (λ x. of_fault x number path name text (tokens_in text).tokens) s)
+    subst (λ x. Answers (of_text number path name text) (Err x)) (sym e) (ap (λ x. of_fault x number path name text (tokens_in text).tokens) a)
 told_fault number path name text (WideNumber o) r a e =
-    let s = ap (option_map fault_told) a.1 ∙ ap Some (told_is a.0 (WideNumber o) a.2) in
-    subst (λ x. Answers (of_text number path name text) (Err x)) (sym e) (ap (λ x. of_fault x number path name text (tokens_in text).tokens) s)
+    subst (λ x. Answers (of_text number path name text) (Err x)) (sym e) (ap (λ x. of_fault x number path name text (tokens_in text).tokens) a)
 told_fault number path name text (BadEscape o) r a e =
-    let s = ap (option_map fault_told) a.1 ∙ ap Some (told_is a.0 (BadEscape o) a.2) in
-    subst (λ x. Answers (of_text number path name text) (Err x)) (sym e) (ap (λ x. of_fault x number path name text (tokens_in text).tokens) s)
+    subst (λ x. Answers (of_text number path name text) (Err x)) (sym e) (ap (λ x. of_fault x number path name text (tokens_in text).tokens) a)
 told_fault number path name text OutOfMemory r a e = subst (λ x. Answers (of_text number path name text) (Err x)) (sym e) tt
 
 -- a text without faults is read by its tokens

@@ -1,3 +1,4 @@
+-- What the bytes of a file are as a module.
 pub mod Source
 pub mod Token
 pub mod Node

@@ -3,12 +3,12 @@ use Rattle.std.specs.Prelude.{ℕ, List, [], ◌∷◌, Option, Some, None}
 use Rattle.rl_base.specs.declared.place.Place.{Place}
 use Rattle.rl_forms.specs.declared.form.Form.{Form}
 use Rattle.rl_forms.specs.declared.form.Form.TheVariants as f
-use Rattle.rl_forms.specs.Words.{or_else}
+use Rattle.rl_forms.specs.Part.{or_else}
 use Rattle.rl_expression_forms.specs.Rule.{expression_form}
 use Rattle.rl_pattern_forms.specs.Rule.{pattern_form}
 use Rattle.rl_statement_forms.specs.Rule.{statement_form}
 use Rattle.rl_declaration_forms.specs.Rule.{declaration_form}
-use Rattle.rl_grammar_forms.specs.Rule.{grammar_form}
+use Rattle.rl_production_forms.specs.Rule.{grammar_form}
 
 -- where the form begins, if its parts are not those of its rule
 abbrev pub unknown : Form → Option Place

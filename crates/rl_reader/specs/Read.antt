@@ -1,5 +1,5 @@
 -- What the bytes of a module's file are.
-use Rattle.std.specs.Prelude.{◌≡◌, ℕ, zero, suc, ◌+◌, List, Option, Some, None, Result, Ok, Err, if◌then◌else◌, length, slice_get, take}
+use Rattle.std.specs.Prelude.{◌≡◌, ℕ, List, Option, Some, None, Result, Ok, Err, if◌then◌else◌, length, slice_get, take}
 use Rattle.std.specs.List.{filter_map}
 use Rattle.std.specs.Option.{option_map}
 use Rattle.std.specs.Str.{chars, bytes_eq}
@@ -7,28 +7,26 @@ use Rattle.std.specs.Str.Lossy.{utf8_valid_len}
 use Rattle.rl_base.specs.Decode.{text_of}
 use Rattle.rl_base.specs.declared.place.Place.{Place}
 use Rattle.rl_tokens.specs.Token.{Token}
-use Rattle.rl_tokens.specs.Fault.{leftmost}
+use Rattle.rl_tokens.specs.Fault.{leftmost, told as fault_told}
 use Rattle.rl_tokens.specs.Scan.{tokens_in}
-use Rattle.rl_tokens.specs.Told.{told as fault_told}
 use Rattle.rl_tokens.specs.declared.fault.TokenFault.{TokenFault}
 use Rattle.rl_tokens.specs.declared.fault.TokenFault.TheVariants as token_fault
 use Rattle.rl_phrase.specs.Tree.{Tree, Trees, Node, none, more}
 use Rattle.rl_phrase.specs.Tree as tree
-use Rattle.rl_phrase.specs.Phr.{Outcome, Fails, Gives, phr}
+use Rattle.rl_phrase.specs.Phr.{Outcome, Fails, Gives, outcome_of}
 use Rattle.rl_phrase.specs.Depth.{first_below}
-use Rattle.rl_phrase.specs.declared.table.Rule.{Rule}
 use Rattle.rl_phrase.specs.declared.phrase.PhraseFault.{PhraseFault}
 use Rattle.rl_phrase.specs.declared.phrase.PhraseFault.TheVariants as phrase_fault
 use Rattle.rl_syntax.specs.declared.module.Module.{Module}
-use Rattle.rl_syntax.specs.declared.rules.TheConstants.{MODULE, RULES}
+use Rattle.rl_phrase_table.specs.declared.rules.TheConstants.{MODULE, RULES}
 use Rattle.rl_reader.specs.declared.read.ReadFault.{ReadFault}
 use Rattle.rl_reader.specs.declared.read.ReadFault.TheVariants as fault
 use Rattle.rl_reader.specs.declared.source.Source.{Source}
 use Rattle.rl_forms.specs.declared.form.Form.{Form}
 use Rattle.rl_forms.specs.declared.form.Form.TheVariants as f
+use Rattle.rl_forms.specs.Declarations.{as_declaration}
 use Rattle.rl_reader.specs.Source.{place_at, place_within}
 use Rattle.rl_reader.specs.Node.{first_unknown}
-use Rattle.rl_declaration_forms.specs.Declaration.{as_declaration}
 use Rattle.rl_reader.specs.Phrase.{forms_of}
 
 -- a module, or the first fault
@@ -72,19 +70,6 @@ of_trees source path name _ = Refused (place_at source 0) 12
 unfoldable pub of_outcome : Source → (path name : List ℕ) → Outcome → Reading
 of_outcome source path name (Fails token) = Refused (place_at source token) 9
 of_outcome source path name (Gives trees next far) = of_trees source path name trees
-
--- As many levels of rows as a table without left recursion can need, where this many tokens are left.
-abbrev pub levels : (rows left : ℕ) → ℕ
-levels rows zero = suc rows
-levels rows (suc left) = levels rows left + suc rows
-
-abbrev pub told : Option Outcome → Outcome
-told None = Fails 0
-told (Some outcome) = outcome
-
--- what a row of a table without left recursion gives at the first token
-unfoldable pub outcome_of : List Token → List Rule → ℕ → Outcome
-outcome_of tokens rules row = told (phr tokens rules (levels (length rules) (length tokens)) row 0)
 
 unfoldable pub of_source : Source → (path name : List ℕ) → Reading
 of_source source path name = of_outcome source path name (outcome_of source.tokens RULES.now MODULE)

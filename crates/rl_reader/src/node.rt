@@ -1,14 +1,15 @@
 //! What a phrase says, from what its parts say.
 
 ghost use Rattle.std.specs.Prelude.{◌≡◌, IfOk};
-ghost use Rattle.rl_reader.specs.Node.{first_unknown, form_of_node, form_of_rule, form_or_unknown};
+ghost use Rattle.rl_forms.specs.Part.{Gives};
+ghost use Rattle.rl_reader.specs.Node.{first_unknown, form_of_node, form_of_rule};
 
 use rl_base::Place;
 use rl_declaration_forms::declaration_form;
 use rl_expression_forms::expression_form;
-use rl_forms::Form;
-use rl_grammar_forms::grammar_form;
+use rl_forms::{Form, FormError};
 use rl_pattern_forms::pattern_form;
+use rl_production_forms::grammar_form;
 use rl_statement_forms::statement_form;
 use std::alloc::{AllocError, Global};
 
@@ -26,36 +27,26 @@ pub(crate) fn first_unknown(parts: &[Form]) -> Option<Place>
 
 // What a phrase of the rule says.
 #[tactic(auto, unfolding(crate::specs::Node::form_of_rule))]
-fn read_rule(
-    alloc: Global,
-    rule: u32,
-    place: Place,
-    parts: &[Form],
-) -> Result<Option<Form>, AllocError>
-    ensures { IfOk result (λ form. form ≡ form_of_rule rule place parts.now) }
+fn read_rule(alloc: Global, rule: u32, place: Place, parts: &[Form]) -> Result<Form, FormError>
+    ensures { Gives (form_of_rule rule place parts.now) result }
 {
-    if let Some(form) = expression_form(alloc, rule, place, parts)? {
-        return Ok(Some(form));
+    match expression_form(alloc, rule, place, parts) {
+        Err(FormError::Missing) => {}
+        found => return found,
     }
-    if let Some(form) = pattern_form(alloc, rule, place, parts)? {
-        return Ok(Some(form));
+    match pattern_form(alloc, rule, place, parts) {
+        Err(FormError::Missing) => {}
+        found => return found,
     }
-    if let Some(form) = statement_form(alloc, rule, place, parts)? {
-        return Ok(Some(form));
+    match statement_form(alloc, rule, place, parts) {
+        Err(FormError::Missing) => {}
+        found => return found,
     }
-    if let Some(form) = declaration_form(alloc, rule, place, parts)? {
-        return Ok(Some(form));
+    match declaration_form(alloc, rule, place, parts) {
+        Err(FormError::Missing) => {}
+        found => return found,
     }
     grammar_form(alloc, rule, place, parts)
-}
-
-fn form_or_unknown(form: Option<Form>, place: Place) -> Form
-    ensures { result ≡ form_or_unknown form place }
-{
-    match form {
-        Some(form) => form,
-        None => Form::Unknown(place),
-    }
 }
 
 /// What a phrase of the rule says, which begins at the place and has these parts.
@@ -68,11 +59,12 @@ pub(crate) fn read_node(
 ) -> Result<Form, AllocError>
     ensures { IfOk result (λ form. form ≡ form_of_node rule place parts.now) }
 {
-    match first_unknown(parts) {
-        Some(place) => Ok(Form::Unknown(place)),
-        None => {
-            let form = read_rule(alloc, rule, place, parts)?;
-            Ok(form_or_unknown(form, place))
-        }
+    if let Some(place) = first_unknown(parts) {
+        return Ok(Form::Unknown(place));
+    }
+    match read_rule(alloc, rule, place, parts) {
+        Ok(form) => Ok(form),
+        Err(FormError::Missing) => Ok(Form::Unknown(place)),
+        Err(FormError::OutOfMemory) => Err(AllocError),
     }
 }

@@ -8,16 +8,14 @@ ghost use Rattle.rl_reader.specs.Read.{Answers, IsFaultOrMemory, as_fault, as_ph
 use crate::node::first_unknown;
 use crate::phrase::read_parts;
 use crate::source::{Source, place_within};
-use rl_base::{Chars, Place, TextFault, chars};
-use rl_declaration_forms::declarations;
-use rl_forms::Form;
-use rl_grammar::Name;
+use rl_base::{Chars, Name, Place, TextFault, chars};
+use rl_forms::{Form, row_in};
 use rl_phrase::phrase::{PhraseFault, phrase};
 use rl_phrase::tree::Phrase;
-use rl_phrase::{TokenFault, tokens};
-use rl_syntax::laws::rules_are_sound;
-use rl_syntax::rules::MODULE;
-use rl_syntax::{Module, RULES};
+use rl_phrase_table::laws::rules_are_sound;
+use rl_phrase_table::rules::{MODULE, RULES};
+use rl_syntax::Module;
+use rl_tokens::{TokenFault, tokens};
 use std::alloc::{AllocError, Global};
 
 /// Why there is no module.
@@ -50,14 +48,11 @@ fn finish(
 ) -> Result<Module, AllocError>
     ensures { IfOk result (λ it. it ≡ module_of place path.now name.now parts.now) }
 {
-    let declarations = declarations(alloc, parts)?;
-    let path = Name::from_str(alloc, path)?;
-    let name = Name::from_str(alloc, name)?;
     Ok(Module {
         place,
-        path,
-        name,
-        declarations,
+        path: Name::from_str(alloc, path)?,
+        name: Name::from_str(alloc, name)?,
+        declarations: row_in(alloc, parts)?,
     })
 }
 

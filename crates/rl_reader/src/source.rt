@@ -4,7 +4,7 @@ ghost use Rattle.std.specs.Prelude.{◌≡◌};
 ghost use Rattle.rl_reader.specs.Source.{kind_at, offset_at, place_at, place_within, text_at};
 
 use rl_base::{Chars, Place};
-use rl_phrase::{Tokens, terminal};
+use rl_tokens::{Tokens, terminal};
 
 /// A text with its tokens, and the number of its module.
 #[derive(Drop)]
@@ -48,7 +48,7 @@ impl Source {
         }
     }
 
-    /// How many characters stand in front of the token.
+    // How many characters stand in front of the token.
     #[tactic(auto, using(crate::proofs::Tokens::read_past, std::proofs::lemmas::Option::get_or_from_slice_get))]
     fn offset(&self, token: u32) -> u32
         ensures { result ≡ offset_at self.now token }

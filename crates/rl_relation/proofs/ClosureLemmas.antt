@@ -5,11 +5,11 @@ use Rattle.std.proofs.lemmas.List.Folds.{list_all-append}
 use Rattle.rl_value.specs.Plain.{Plain, set, plains_of}
 use Rattle.rl_value.specs.Order.{plain_cmp}
 use Rattle.rl_value.specs.Laws.{plain_cmp_total, plain_exact}
-use Rattle.rl_value.specs.Rising.{rising}
+use Rattle.rl_value.specs.Rising.{In, rising}
 use Rattle.rl_value.specs.Built.{Builds}
 use Rattle.rl_value.specs.declared.build_end.BuildEnd.{BuildEnd}
 use Rattle.rl_value.specs.declared.build_end.BuildEnd.TheVariants.{TooLarge}
-use Rattle.rl_value.proofs.RisingLemmas.{In, same_rising, Rises-rising, In-rising, In-from_rising}
+use Rattle.rl_value.proofs.RisingLemmas.{same_rising, Rises-rising, In-rising, In-from_rising}
 use Rattle.rl_value.proofs.RenewLemmas.{not_fitting}
 use Rattle.rl_exception.specs.Answer.{fits}
 use Rattle.rl_exception.proofs.FittingLemmas.{fits-false}

@@ -8,7 +8,7 @@ use Rattle.std.specs.declared.cmp.Ordering.TheVariants.{Less, Equal, Greater}
 use Rattle.std.specs.Ordering.{is_eq}
 use Rattle.rl_value.specs.Order.{plain_cmp}
 use Rattle.rl_value.specs.Laws.{plain_eq, plain_same, plain_exact, plain_eq_itself}
-use Rattle.rl_value.proofs.RisingLemmas.{In}
+use Rattle.rl_value.specs.Rising.{In}
 use Rattle.rl_access.specs.Rows.{begins_with, rest_of, rests}
 use Rattle.rl_relation.specs.Pairs.{is_pair, pair_of, first_of, second_of}
 use Rattle.rl_relation.specs.Closures.{starts, products, bridged, closure, leads, Leads, GrowsBy}

@@ -5,7 +5,7 @@ use Rattle.std.specs.BTreeSet.{BTreeSet, contains}
 use Rattle.rl_value.specs.Plain.{Plain}
 use Rattle.rl_value.specs.Order.{plain_cmp}
 use Rattle.rl_value.specs.Laws.{plain_eq}
-use Rattle.rl_value.proofs.RisingLemmas.{In}
+use Rattle.rl_value.specs.Rising.{In}
 use Rattle.rl_access.specs.Rows.{rests}
 use Rattle.rl_exception.specs.Answer.{Answer, fitting}
 use Rattle.rl_relation.specs.Pairs.{pair_of, first_of, second_of, set_of, pairs_in, parts_in}

@@ -2,7 +2,7 @@
 use Rattle.std.specs.Prelude.{◌≡◌, true, List}
 use Rattle.std.specs.List.{list_all}
 use Rattle.rl_value.specs.Plain.{Plain}
-use Rattle.rl_value.proofs.RisingLemmas.{In}
+use Rattle.rl_value.specs.Rising.{In}
 use Rattle.rl_relation.specs.Pairs.{is_pair, pair_of}
 use Rattle.rl_relation.specs.Closures.{Leads, closure}
 

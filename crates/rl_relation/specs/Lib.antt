@@ -1,3 +1,4 @@
+-- What operations on relations give.
 pub mod Pairs
 pub mod Relations
 pub mod Closures

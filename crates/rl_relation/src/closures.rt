@@ -1,11 +1,12 @@
+//! The pairs that are joined by paths of a relation.
+
 ghost use Rattle.std.specs.Prelude.{◌≡◌, ◌⊎◌, ◌++◌, ◌∷◌, [], true, false, not, map, IfOk, OnOk, Err};
 ghost use Rattle.std.specs.List.{list_all};
 ghost use Rattle.std.specs.BTreeSet.{contains};
 ghost use Rattle.rl_value.specs.Plain.{Plain};
 ghost use Rattle.rl_value.specs.Order.{plain_cmp};
-ghost use Rattle.rl_value.specs.Rising.{Rises};
+ghost use Rattle.rl_value.specs.Rising.{In, Rises};
 ghost use Rattle.rl_value.specs.declared.build_end.BuildEnd.TheVariants.{TooLarge};
-ghost use Rattle.rl_value.proofs.RisingLemmas.{In};
 ghost use Rattle.rl_exception.specs.Answer.{fits, fitting, Answers};
 ghost use Rattle.rl_access.specs.Rows.{is_row};
 ghost use Rattle.rl_relation.specs.Pairs.{is_pair, first_of, pair_of, set_of};
@@ -77,7 +78,7 @@ fn with_loops(alloc: Global, pairs: &[Value]) -> Result<Vec<Value>, BuildEnd>
     }
 }
 
-/// Adds each part of a pair with itself.
+// Adds each part of a pair with itself.
 fn looped(alloc: Global, found: Vec<Value>, pairs: &[Value]) -> Result<Vec<Value>, BuildEnd>
     ensures ok { IfOk result (λ all. all.items ≡ found.items ++ loops pairs.now) }
     ensures large { result ≡ Err TooLarge → list_all fits (loops pairs.now) ≡ false }
@@ -90,7 +91,7 @@ fn looped(alloc: Global, found: Vec<Value>, pairs: &[Value]) -> Result<Vec<Value
     }
 }
 
-/// Adds each value with itself.
+// Adds each value with itself.
 fn add_loops(alloc: Global, found: &mut Vec<Value>, values: &[Value]) -> Result<(), BuildEnd>
     ensures ok { OnOk result (found.new.items ≡ found.old.items ++ map (λ x. pair_of x x) values.now) }
     ensures large { result ≡ Err TooLarge → list_all fits (map (λ x. pair_of x x) values.now) ≡ false }
@@ -104,7 +105,7 @@ fn add_loops(alloc: Global, found: &mut Vec<Value>, values: &[Value]) -> Result<
     Ok(())
 }
 
-/// The pairs that paths join, perhaps with repeats.
+// The pairs that paths join, perhaps with repeats.
 fn joined_pairs(alloc: Global, pairs: &[Value]) -> Result<Vec<Value>, BuildEnd>
     requires pairs { list_all is_pair pairs.now ≡ true }
     requires rows { list_all is_row pairs.now ≡ true }
@@ -123,7 +124,7 @@ fn joined_pairs(alloc: Global, pairs: &[Value]) -> Result<Vec<Value>, BuildEnd>
     Ok(found)
 }
 
-/// The first parts of these rising pairs, each once.
+// The first parts of these rising pairs, each once.
 fn starts(alloc: Global, pairs: &[Value]) -> Result<Vec<Value>, AllocError>
     ensures { IfOk result (λ starts. (x : Plain) → In x (map first_of pairs.now) → In x starts.items) }
 {
@@ -132,7 +133,7 @@ fn starts(alloc: Global, pairs: &[Value]) -> Result<Vec<Value>, AllocError>
     Ok(starts)
 }
 
-/// Adds the pairs of `start` with all that paths lead to from it.
+// Adds the pairs of `start` with all that paths lead to from it.
 fn add_reached(
     alloc: Global,
     found: &mut Vec<Value>,
@@ -150,7 +151,7 @@ fn add_reached(
     add_pairs(alloc, found, start, &ends)
 }
 
-/// All that paths of one pair or more lead to from `start`.
+// All that paths of one pair or more lead to from `start`.
 fn leads(alloc: Global, pairs: &[Value], start: &Value) -> Result<Vec<Value>, AllocError>
     requires rises { Rises plain_cmp pairs.now }
     requires rows { list_all is_row pairs.now ≡ true }
@@ -171,7 +172,7 @@ fn leads(alloc: Global, pairs: &[Value], start: &Value) -> Result<Vec<Value>, Al
     Ok(found)
 }
 
-/// Adds those of the values that were not seen.
+// Adds those of the values that were not seen.
 fn add_all(
     found: &mut Vec<Value>,
     seen: &mut BTreeSet<Value>,
@@ -188,7 +189,7 @@ fn add_all(
     Ok(())
 }
 
-/// Adds a value, unless it was seen.
+// Adds a value, unless it was seen.
 fn add(found: &mut Vec<Value>, seen: &mut BTreeSet<Value>, value: &Value) -> Result<(), AllocError>
     requires { Covers seen.old found.old.items }
     ensures covered { OnOk result (Covers seen.new found.new.items) }
@@ -201,7 +202,7 @@ fn add(found: &mut Vec<Value>, seen: &mut BTreeSet<Value>, value: &Value) -> Res
     Ok(())
 }
 
-/// Whether a value was not seen yet; now it is.
+// Whether a value was not seen yet; now it is.
 fn is_new(seen: &mut BTreeSet<Value>, value: &Value) -> Result<bool, AllocError>
     ensures new { IfOk result (λ new. new ≡ not (contains plain_cmp seen.old value.now)) }
     ensures kept { OnOk result ((q : Plain) → contains plain_cmp seen.new q ≡ true → (contains plain_cmp seen.old q ≡ true) ⊎ (q ≡ value.now)) }

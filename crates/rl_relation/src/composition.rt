@@ -1,3 +1,5 @@
+//! Composition of relations.
+
 ghost use Rattle.std.specs.Prelude.{◌≡◌, ◌++◌, true, false, map, IfOk, OnOk, Err};
 ghost use Rattle.std.specs.List.{list_all};
 ghost use Rattle.rl_value.specs.Order.{plain_cmp};
@@ -55,7 +57,7 @@ fn joined(alloc: Global, left: &[Value], right: &[Value]) -> Result<Vec<Value>, 
     Ok(found)
 }
 
-/// Adds what one pair gives with those that begin with its second part.
+// Adds what one pair gives with those that begin with its second part.
 fn join(
     alloc: Global,
     found: &mut Vec<Value>,

@@ -33,7 +33,7 @@ pub(crate) fn pairs_in(a: &Value) -> Option<&[Value]>
     }
 }
 
-/// The values, where all are pairs.
+// The values, where all are pairs.
 #[tactic(auto, using(crate::proofs::PairLemmas::rows_of_pairs))]
 fn only_pairs(items: &[Value]) -> Option<&[Value]>
     ensures pairs { IfSome result (λ ps. list_all is_pair ps.now ≡ true) }

@@ -1,3 +1,5 @@
+//! The domain, the range and the carrier of a relation.
+
 ghost use Rattle.std.specs.Prelude.{◌≡◌, true, IfOk, map};
 ghost use Rattle.std.specs.List.{list_all};
 ghost use Rattle.rl_exception.specs.Answer.{Answers};

@@ -1,3 +1,5 @@
+//! Relations restricted to pairs with some first or second parts.
+
 ghost use Rattle.std.specs.Prelude.{◌≡◌, IfOk};
 ghost use Rattle.rl_value.specs.Order.{plain_cmp};
 ghost use Rattle.rl_value.specs.Rising.{Rises};
@@ -38,7 +40,7 @@ pub fn range_excluded(alloc: Global, a: &Value, s: &Value) -> Result<Value, OpEn
     restricted(alloc, a, s, Side::Second, false)
 }
 
-/// The pairs of which one part is in a set, where that is wanted, or not in it.
+// The pairs of which one part is in a set, where that is wanted, or not in it.
 fn restricted(alloc: Global, a: &Value, s: &Value, side: Side, wanted: bool) -> Result<Value, OpEnd>
     ensures { Answers (restricted_of side wanted a.now s.now) result }
 {
@@ -79,7 +81,7 @@ fn is_wanted(pair: &Value, elements: &[Value], side: Side, wanted: bool) -> bool
     if wanted { found } else { !found }
 }
 
-/// Whether this is one of these rising values, by halving.
+// Whether this is one of these rising values, by halving.
 fn has(elements: &[Value], x: &Value) -> bool
     requires { Rises plain_cmp elements.now }
     ensures { result ≡ is_member elements.now x.now }

@@ -1,34 +1,8 @@
 -- The examples compute.
 use Rattle.std.proofs.Common.{refl}
-use Rattle.std.specs.Fmt.{digits}
 use Rattle.rl_base.specs.Holds.{FileMap}
-use Rattle.rl_exception.specs.Answer.{fits, fitting, throwing}
-use Rattle.rl_match.specs.Bindings.{bindings, element}
-use Rattle.rl_match.specs.Folds.{fold_within}
-use Rattle.rl_match.specs.Tests.{variables_in, element_variables}
-use Rattle.rl_operators.specs.Arithmetic.{whole}
-use Rattle.rl_syntax.specs.declared.expression.Exp.{out-Exp}
-use Rattle.rl_syntax.specs.declared.expression.Exp.TheBlock.{shown-the_row-Exp-0, shown-the_row-Exp-Disjunction-1-1-1, shown-the_row-Suffix-2, shown-the_row-Case-3, shown-the_row-Exp-Visit-3-1-4, shown-the_row-Stat-5, shown-the_row-Case-Default-1-1-6, shown-the_row-Handler-7, shown-the_row-Stat-Try-2-1-8}
-use Rattle.rl_syntax.specs.declared.expression.Suffix.{out-Suffix}
-use Rattle.rl_syntax.specs.declared.pattern.Pattern.{out-Pattern}
-use Rattle.rl_syntax.specs.declared.pattern.Pattern.TheBlock.{shown-the_row-Pattern-0, shown-the_row-Pattern-Constructor-2-1-1, shown-the_row-PatternElement-2}
-use Rattle.rl_syntax.specs.declared.pattern.PatternElement.{out-PatternElement}
-use Rattle.rl_syntax.specs.declared.statement.Case.{out-Case}
-use Rattle.rl_syntax.specs.declared.statement.Handler.{out-Handler}
-use Rattle.rl_syntax.specs.declared.statement.Stat.{out-Stat}
-use Rattle.rl_syntax.specs.declared.ty.Ty.{out-Ty}
-use denote.Hole.Carrier.{out, shown, hidden}
-use Rattle.rl_rules.specs.Conditions.{conditions_in}
-use Rattle.rl_rules.specs.Evaluation.{eval, eval_within}
-use Rattle.rl_rules.specs.Examples.{OneLine, FinallyAfterReturn, FinallyThrows, Counting, WithoutValue, OutOfRange, FallingBack, LeavingLoop, Handled, FinallyAtACut, NextAlternative, FalseCondition, ThreeElements, Reducing, TakenBack, FixedAtStart, Divided, FalseUnderMember, OtherAlternative, TestWithoutValue, SecondHandler, DeepestCall, Parsing}
-use Rattle.rl_rules.specs.Parts.{bare}
-use Rattle.rl_rules.specs.Rules.{entered, rule_of, rule_of_turn}
-use Rattle.rl_rules.specs.Run.{derivation}
-
--- what an example computes by
-computing : Unit {0}
-unfolding derivation eval eval_within entered rule_of rule_of_turn bare conditions_in fits fitting throwing whole digits bindings element variables_in element_variables fold_within out-Exp out-Stat out-Ty out-Suffix out-Case out-Handler out-Pattern out-PatternElement out shown hidden shown-the_row-Exp-0 shown-the_row-Exp-Disjunction-1-1-1 shown-the_row-Suffix-2 shown-the_row-Case-3 shown-the_row-Exp-Visit-3-1-4 shown-the_row-Stat-5 shown-the_row-Case-Default-1-1-6 shown-the_row-Handler-7 shown-the_row-Stat-Try-2-1-8 shown-the_row-Pattern-0 shown-the_row-Pattern-Constructor-2-1-1 shown-the_row-PatternElement-2
-computing = tt
+use Rattle.rl_rules.specs.Examples.{OneLine, FinallyAfterReturn, FinallyThrows, Counting, WithoutValue, OutOfRange, FallingBack, LeavingLoop, Handled, FinallyAtACut, NextAlternative, FalseCondition, ThreeElements, Reducing, TakenBack, FixedAtStart, Divided, FalseUnderMember, OtherAlternative, TestWithoutValue, SecondHandler, DeepestCall, Parsing, Collecting, Exchanging, ChangingInside, JoinedConditions, UnderConditions, Solving, Extending}
+use Rattle.rl_rules.proofs.Computing.{computing}
 
 pub one_line : (files : FileMap) → OneLine files
 unfolding computing
@@ -121,3 +95,31 @@ deepest_call files = (refl, refl)
 pub parsing : (files : FileMap) → Parsing files
 unfolding computing
 parsing files = refl
+
+pub collecting : (files : FileMap) → Collecting files
+unfolding computing
+collecting files = refl
+
+pub exchanging : (files : FileMap) → Exchanging files
+unfolding computing
+exchanging files = refl
+
+pub changing_inside : (files : FileMap) → ChangingInside files
+unfolding computing
+changing_inside files = refl
+
+pub joined_conditions : (files : FileMap) → JoinedConditions files
+unfolding computing
+joined_conditions files = refl
+
+pub under_conditions : (files : FileMap) → UnderConditions files
+unfolding computing
+under_conditions files = refl
+
+pub solving : (files : FileMap) → Solving files
+unfolding computing
+solving files = refl
+
+pub extending : (files : FileMap) → Extending files
+unfolding computing
+extending files = refl

@@ -15,7 +15,7 @@ use Rattle.rl_rules.specs.Conditions.{condition, conditions, conditions_in, wher
 use Rattle.rl_rules.specs.Form.{Form, expression, statement, alternative, node, Turn, turn, while, do_while, solve, visit}
 use Rattle.rl_rules.specs.Loops.{loop_body, while_turn, turn_after}
 use Rattle.rl_rules.specs.Program.{Program, has_type}
-use Rattle.rl_rules.specs.Rule.{Outcome, Rule, Give, Use, Take, Print, Read, after}
+use Rattle.rl_rules.specs.Rule.{Outcome, Rule, Give, Use, Take, Print, Read, Wrong, after}
 use Rattle.rl_rules.specs.Rules.{rule_of, rule_of_turn, entered}
 use Rattle.rl_rules.specs.Scopes.{scoped, leave_scope}
 use Rattle.rl_rules.specs.State.{State, open_scope}
@@ -35,6 +35,7 @@ TakesFirst (Use f d s go) = IsNoTurn f
 TakesFirst (Take rule) = ⊤
 TakesFirst (Print bytes rule) = TakesFirst rule
 TakesFirst (Read path go) = (found : Option (List ℕ)) → TakesFirst (go found)
+TakesFirst (Wrong rule) = TakesFirst rule
 
 -- a unit is taken before any turn
 abbrev pub Guarded : Rule → Type 0
@@ -43,6 +44,7 @@ Guarded (Use f d s go) = IsNoTurn f
 Guarded (Take rule) = ⊤
 Guarded (Print bytes rule) = Guarded rule
 Guarded (Read path go) = (found : Option (List ℕ)) → Guarded (go found)
+Guarded (Wrong rule) = Guarded rule
 
 TakesFirst-after : (rule : Rule) (go : Outcome → State → Rule) → TakesFirst rule → TakesFirst (after rule go)
 TakesFirst-after (Give r s) go h = absurd h
@@ -50,6 +52,7 @@ TakesFirst-after (Use f d s next) go h = h
 TakesFirst-after (Take rule) go h = tt
 TakesFirst-after (Print bytes rule) go h = TakesFirst-after rule go h
 TakesFirst-after (Read path next) go h = λ found. TakesFirst-after (next found) go (h found)
+TakesFirst-after (Wrong rule) go h = TakesFirst-after rule go h
 
 TakesFirst-guarded : (rule : Rule) → TakesFirst rule → Guarded rule
 TakesFirst-guarded (Give r s) h = tt
@@ -57,6 +60,7 @@ TakesFirst-guarded (Use f d s next) h = h
 TakesFirst-guarded (Take rule) h = tt
 TakesFirst-guarded (Print bytes rule) h = TakesFirst-guarded rule h
 TakesFirst-guarded (Read path next) h = λ found. TakesFirst-guarded (next found) (h found)
+TakesFirst-guarded (Wrong rule) h = TakesFirst-guarded rule h
 
 condition-first : (p : Program) (d : ℕ) (c : Exp) (layer : e.Exp-F Exp Suffix Case Handler Stat) (rest : State → Rule) (s : State) → TakesFirst (condition p d c layer rest s)
 condition-first p d c (e.Match place pattern x) rest s = tt

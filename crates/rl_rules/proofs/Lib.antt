@@ -2,6 +2,9 @@ pub mod Guards
 pub mod Units
 pub mod Growth
 pub mod More
+pub mod Computing
 pub mod Computed
 pub mod After
 pub mod Visited
+pub mod Runs
+pub mod Nests

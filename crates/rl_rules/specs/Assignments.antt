@@ -1,5 +1,5 @@
 -- Declarations and assignments.
-use Rattle.std.specs.Prelude.{ℕ, ◌==◌, if◌then◌else◌, List, [], ◌∷◌, ◌++◌, length}
+use Rattle.std.specs.Prelude.{ℕ, List, [], ◌∷◌, ◌++◌, Option, Some, None}
 use Rattle.rl_access.specs.Changes.{with_subscript_of, with_field_of}
 use Rattle.rl_access.specs.Elements.{subscript_of}
 use Rattle.rl_exception.specs.Answer.{Answer, Gives, Throws}
@@ -19,7 +19,7 @@ use Rattle.rl_rules.specs.Literals.{with_variable}
 use Rattle.rl_rules.specs.Operators.{field_place, field_answer}
 use Rattle.rl_rules.specs.Parts.{part}
 use Rattle.rl_rules.specs.Program.{Program, is_global}
-use Rattle.rl_rules.specs.Rule.{Rule, throw, on_answer, done}
+use Rattle.rl_rules.specs.Rule.{Rule, wrong_operand, on_answer, done}
 use Rattle.rl_rules.specs.State.{State, declare, write}
 
 -- Variables.
@@ -34,15 +34,28 @@ declaration x value d s = part value d s (declared x)
 abbrev pub written : Program → Identifier → Plain → State → Rule
 written p x v s = done (write (is_global p x.number) x.number v s)
 
-abbrev pub write_each : Program → List Identifier → List Plain → State → State
-write_each p [] vs s = s
-write_each p (x ∷ xs) [] s = s
-write_each p (x ∷ xs) (v ∷ vs) s = write_each p xs vs (write (is_global p x.number) x.number v s)
+abbrev pub with_first : {A B : Type 0} → A → B → Option (List (A × B)) → Option (List (A × B))
+with_first a b None = None
+with_first a b (Some pairs) = Some ((a, b) ∷ pairs)
+
+-- the elements of two lists in pairs, where there are as many
+abbrev pub paired : {A B : Type 0} → List A → List B → Option (List (A × B))
+paired [] [] = Some []
+paired (a ∷ rest) (b ∷ others) = with_first a b (paired rest others)
+paired rest others = None
+
+abbrev pub write_each : Program → List (Identifier × Plain) → State → State
+write_each p [] s = s
+write_each p ((x, v) ∷ pairs) s = write_each p pairs (write (is_global p x.number) x.number v s)
+
+abbrev pub written_pairs : Program → Option (List (Identifier × Plain)) → State → Rule
+written_pairs p None s = wrong_operand s
+written_pairs p (Some pairs) s = done (write_each p pairs s)
 
 -- `<x, y> = e;`: the parts from the left; another number of parts, or another kind, is none
 abbrev pub written_tuple : Program → List Identifier → Plain → State → Rule
-written_tuple p xs (tuple ts) s = if length xs == length (items_of ts) then done (write_each p xs (items_of ts) s) else throw wrong_kind s
-written_tuple p xs v s = throw wrong_kind s
+written_tuple p xs (tuple ts) s = written_pairs p (paired xs (items_of ts)) s
+written_tuple p xs v s = wrong_operand s
 
 abbrev pub tuple_assignment : Program → List Identifier → Exp → ℕ → State → Rule
 tuple_assignment p xs value d s = part value d s (written_tuple p xs)
@@ -105,16 +118,23 @@ abbrev pub assigned : Program → Identifier → Assignment → List Step → Pl
 assigned p x a.Set [] v s = written p x v s
 assigned p x op ks v s = with_variable x (assigned_old p x op ks v) s
 
-abbrev pub step_of : e.Suffix-F Exp Suffix Case Handler Stat → ℕ → (List Step → State → Rule) → State → Rule
-step_of (e.Subscript place y) d go s = part y d s (λ v. go (at v ∷ []))
-step_of (e.Field place name) d go s = go (field name.name ∷ []) s
-step_of suffix d go s = throw wrong_kind s
+abbrev pub one_more_subscript : (List Step → State → Rule) → List Step → Plain → State → Rule
+one_more_subscript go ks v s = go (ks ++ at v ∷ []) s
 
--- the subscripts from the left
-abbrev pub steps : List Suffix → ℕ → List Step → (List Step → State → Rule) → State → Rule
-steps [] d ks go s = go ks s
-steps (x ∷ xs) d ks go s = step_of (out-Suffix x) d (λ ls. steps xs d (ks ++ ls) go) s
+abbrev pub step_of : e.Suffix-F Exp Suffix Case Handler Stat → ℕ → (List Step → State → Rule) → List Step → State → Rule
+step_of (e.Subscript place y) d go ks s = part y d s (one_more_subscript go ks)
+step_of (e.Field place name) d go ks s = go (ks ++ field name.name ∷ []) s
+step_of suffix d go ks s = wrong_operand s
+
+-- the subscripts from the left, after the steps before
+abbrev pub steps : List Suffix → ℕ → (List Step → State → Rule) → List Step → State → Rule
+steps [] d go ks s = go ks s
+steps (x ∷ xs) d go ks s = step_of (out-Suffix x) d (steps xs d go) ks s
+
+-- the right side, after the steps
+abbrev pub right_side : Program → Identifier → Assignment → Exp → ℕ → List Step → State → Rule
+right_side p x op value d ks s = part value d s (assigned p x op ks)
 
 -- first the subscripts, then the right side, and then the old value
 abbrev pub assignment : Program → Identifier → List Suffix → Assignment → Exp → ℕ → State → Rule
-assignment p x path op value d s = steps path d [] (λ ks t. part value d t (assigned p x op ks)) s
+assignment p x path op value d = steps path d (right_side p x op value d) []

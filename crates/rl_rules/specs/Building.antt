@@ -3,7 +3,7 @@ use Rattle.std.specs.Prelude.{ℕ, pos, Bool, true, false, List, [], ◌∷◌, 
 use Rattle.rl_base.specs.declared.place.Place.{Place}
 use Rattle.rl_base.specs.Holds.{FileMap}
 use Rattle.rl_exception.specs.Answer.{Gives}
-use Rattle.rl_syntax.specs.declared.declaration.Body.TheVariants.{Statements}
+use Rattle.rl_syntax.specs.declared.declaration.Body.TheVariants.{Statements, Value}
 use Rattle.rl_syntax.specs.declared.declaration.Decl.{Decl}
 use Rattle.rl_syntax.specs.declared.declaration.Decl.TheVariants as d
 use Rattle.rl_syntax.specs.declared.declaration.Modifier.{Modifier}
@@ -13,6 +13,7 @@ use Rattle.rl_syntax.specs.declared.expression.Exp.TheVariants as x
 use Rattle.rl_syntax.specs.declared.expression.Suffix.TheVariants as u
 use Rattle.rl_syntax.specs.declared.identifier.Identifier.{Identifier}
 use Rattle.rl_syntax.specs.declared.identifier.PatternVariable.{PatternVariable}
+use Rattle.rl_syntax.specs.declared.module.Module.{Module}
 use Rattle.rl_syntax.specs.declared.operator.Assignment.TheVariants as a
 use Rattle.rl_syntax.specs.declared.operator.Comparison.TheVariants as c
 use Rattle.rl_syntax.specs.declared.operator.SumOperator.TheVariants as o
@@ -32,10 +33,10 @@ use Rattle.rl_syntax.specs.declared.ty.Ty.TheVariants as ty
 use Rattle.rl_types.specs.Declarations.{Constructor}
 use Rattle.rl_types.specs.PlainType.{PlainType}
 use Rattle.rl_value.specs.Plain.{empty_tuple}
-use Rattle.rl_rules.specs.Evaluation.{Ran, Done, Cut}
+use Rattle.rl_rules.specs.Evaluation.{Ran, Done, Cut, Stuck}
 use Rattle.rl_rules.specs.Program.{Program}
 use Rattle.rl_rules.specs.Rule.{Outcome}
-use Rattle.rl_rules.specs.Run.{derivation}
+use Rattle.rl_rules.specs.Run.{derivation, main as main_rule}
 
 abbrev pub here : Place
 here = record { «module» = 0; offset = 0; line = 1; column = 1 }
@@ -61,6 +62,11 @@ variable n = x.Variable here (name (codes "x") n)
 abbrev pub call : List ℕ → List Exp → Exp
 call function arguments = x.Call here (name function 0) arguments
 
+-- a call that stands in module 1
+abbrev pub call_in_extended : List ℕ → List Exp → Exp
+call_in_extended function arguments =
+    x.Call here (record { place = record { «module» = 1; offset = 0; line = 1; column = 1 }; name = function; number = 0 }) arguments
+
 -- `#S`, as an argument
 abbrev pub sort_argument : List ℕ → Exp
 sort_argument sort = x.TypeName here (name sort 0)
@@ -75,7 +81,7 @@ abbrev pub pair : Exp → Exp → Exp
 pair first second = x.Tuple here (first ∷ second ∷ [])
 
 abbrev pub plus : Exp → Exp → Exp
-plus left right = x.Sum here (left ∷ right ∷ []) (o.Add ∷ [])
+plus left right = x.Sum here left ((o.Add, right) ∷ [])
 
 abbrev pub less : Exp → Exp → Exp
 less left right = x.Compared here left c.Less right
@@ -102,6 +108,20 @@ reduce start step conditions = x.Reducer here start step conditions
 
 abbrev pub visit : Strategy → Exp → List Case → Ty → Exp
 visit strategy subject cases type = x.Visit here strategy subject cases type
+
+-- a loop for the list of what it appends
+abbrev pub loop_value : Stat → Exp
+loop_value loop = x.Loop here loop
+
+abbrev pub both : Exp → Exp → Exp
+both first second = x.Conjunction here (first ∷ second ∷ [])
+
+abbrev pub in_parentheses : Exp → Exp
+in_parentheses value = x.Parenthesized here value
+
+-- `[e | conditions]`
+abbrev pub collect : Exp → List Exp → Exp
+collect value conditions = x.ListComprehension here (value ∷ []) conditions
 
 -- Statements.
 
@@ -170,6 +190,20 @@ declare n value = t.Declaration here (ty.Int here) (name (codes "x") n) value
 
 abbrev pub assign : ℕ → Exp → Stat
 assign n value = t.Assign here (name (codes "x") n) [] a.Set value
+
+abbrev pub append : Exp → Stat
+append value = t.Append here value
+
+abbrev pub solve : ℕ → Stat → Stat
+solve n body = t.Solve here (name (codes "x") n ∷ []) body
+
+-- `<x, y> = e;`
+abbrev pub assign_pair : ℕ → ℕ → Exp → Stat
+assign_pair m n value = t.TupleAssignment here (name (codes "x") m ∷ name (codes "y") n ∷ []) value
+
+-- `x[e][f] = value;`
+abbrev pub assign_at : ℕ → Exp → Exp → Exp → Stat
+assign_at n first second value = t.Assign here (name (codes "x") n) (u.Subscript here first ∷ u.Subscript here second ∷ []) a.Set value
 
 abbrev pub increase : ℕ → Exp → Stat
 increase n value = t.Assign here (name (codes "x") n) [] a.Add value
@@ -241,14 +275,26 @@ function = function_marked None
 abbrev pub default_function : Ty → List ℕ → List Pattern → List Stat → Decl
 default_function = function_marked (Some Default)
 
+-- a function whose body is `= e when conditions`
+abbrev pub function_when : Option Modifier → Ty → List ℕ → List Pattern → Exp → List Exp → Decl
+function_when modifier type text parameters value conditions =
+    d.Function (record { place = here; private = false; modifier = modifier; ty = type; name = name text 0; parameters = parameters; body = Value value conditions })
+
+abbrev pub extends : List ℕ → Decl
+extends text = d.Extend here text
+
 -- `int name = e;`
 abbrev pub global : List ℕ → ℕ → Exp → Decl
 global text n value = d.Global here false int_type (name text n) value
 
-abbrev pub program_with : List Constructor → List Decl → Program
-program_with constructors declarations = record {
-  modules = (record { place = here; path = codes "Main.rsc"; name = codes "Main"; declarations = declarations }) ∷ [];
-  finished = 0 ∷ [];
+abbrev pub module_named : List ℕ → List Decl → Module
+module_named name declarations = record { place = here; path = codes "Main.rsc"; name = name; declarations = declarations }
+
+-- of modules that finished in this order
+abbrev pub program_of : List Module → List ℕ → List Constructor → Program
+program_of modules finished constructors = record {
+  modules = modules;
+  finished = finished;
   declarations = record { data_types = []; constructors = constructors; sorts = [] };
   grammars = record {
     on_fragment = λ fragment v b. [];
@@ -257,6 +303,9 @@ program_with constructors declarations = record {
     imploded = λ type v. Gives empty_tuple;
   };
 }
+
+abbrev pub program_with : List Constructor → List Decl → Program
+program_with constructors declarations = program_of (module_named (codes "Main") declarations ∷ []) (0 ∷ []) constructors
 
 -- a constructor of the data type T, with these fields
 abbrev pub constructor : List ℕ → List (List ℕ × PlainType) → Constructor
@@ -274,10 +323,12 @@ main body = program (function void_type (codes "main") [] body ∷ [])
 pub data Came : Type 0 where
   done : Outcome → (left : ℕ) → (printed : List ℕ) → Came
   cut : (printed : List ℕ) → Came
+  stuck : (printed : List ℕ) → Came
 
 abbrev pub came_of : Ran → Came
 came_of (Done r s n t) = done r n t
 came_of (Cut t) = cut t
+came_of (Stuck t) = stuck t
 
 abbrev pub run : Program → FileMap → ℕ → Came
-run program files units = came_of (derivation program files [] units)
+run program files units = came_of (derivation program files (main_rule program []) units)

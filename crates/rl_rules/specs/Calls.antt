@@ -3,7 +3,7 @@ use Rattle.std.specs.Prelude.{ℕ, ◌+◌, ◌==◌, ◌&&◌, not, Bool, true,
 use Rattle.std.specs.List.{list_any}
 use Rattle.rl_exception.specs.Exceptions.{call_failed, no_return}
 use Rattle.rl_match.specs.Bindings.{joined_bindings}
-use Rattle.rl_modules.specs.Visible.{Alternative, alternatives, visible_functions}
+use Rattle.rl_visibility.specs.Visible.{Alternative, alternatives, visible_functions}
 use Rattle.rl_syntax.specs.declared.declaration.Body.{Body}
 use Rattle.rl_syntax.specs.declared.declaration.Body.TheVariants.{Value, Statements}
 use Rattle.rl_syntax.specs.declared.declaration.Function.{Function}
@@ -26,11 +26,12 @@ use Rattle.rl_rules.specs.Form.{alternative}
 use Rattle.rl_rules.specs.LibraryCalls.{SortArgument, no_sort, sort, start_sort, library_call}
 use Rattle.rl_rules.specs.Literals.{literal}
 use Rattle.rl_rules.specs.Members.{members, on_tested}
-use Rattle.rl_rules.specs.Parts.{part, raise}
+use Rattle.rl_rules.specs.Parts.{parts, raise}
 use Rattle.rl_rules.specs.Program.{Program, context}
 use Rattle.rl_rules.specs.Rule.{Outcome, Val, Ret, Miss, Fail, Rule, Give, Use, after, give, done}
 use Rattle.rl_rules.specs.Scopes.{statements}
 use Rattle.rl_rules.specs.State.{State, enter_call, leave_call}
+use Rattle.rl_rules.specs.Statements.{return_value}
 
 -- Functions.
 
@@ -78,7 +79,7 @@ is_void ty = is_void_form (out-Ty ty)
 
 -- the value after `=`, or what the statements end in
 abbrev pub body : Program → Body → ℕ → State → Rule
-body p (Value x cs) d s = where_all p cs d (λ t. part x d t (λ v u. Give (Ret v) u)) s
+body p (Value x cs) d s = where_all p cs d (return_value x d) s
 body p (Statements xs) d s = statements xs d s
 
 -- how a call ends by how its body ended: a void function has no value, and another one must return
@@ -90,9 +91,11 @@ returned false (Val v) s = raise no_return s
 returned void r s = Give r s
 
 -- the bindings of the parameters on the arguments are the members
+abbrev pub parameter_members : Program → Function → ℕ → List Plain → State → Rule
+parameter_members p f d vs s = members (joined_bindings (context p s) f.parameters vs []) false (body p f.body d) s
+
 abbrev pub parameters : Program → Function → ℕ → List Plain → State → Rule
-parameters p f d vs s =
-    on_tested f.parameters (λ t. members (joined_bindings (context p t) f.parameters vs []) false (body p f.body d) t) s
+parameters p f d vs = on_tested f.parameters (parameter_members p f d vs)
 
 abbrev pub alternative_rule : Program → Alternative → List Plain → ℕ → State → Rule
 alternative_rule p a vs d s = after (parameters p a.function d vs s) (returned (is_void a.function.ty))
@@ -103,25 +106,36 @@ abbrev pub has_function : Program → (x : ℕ) → List ℕ → Bool
 has_function p x name = list_any (λ a. bytes_eq name a.function.name.name) (visible_functions p.modules x)
 
 -- A constructor goes by its name and the number of arguments, of which `#S` is one, though it has no value. A function of the program hides a library function of its name.
-abbrev pub call_with : Program → (x : ℕ) → List ℕ → (count : ℕ) → SortArgument → List Plain → ℕ → State → Rule
-call_with p x name count wanted vs d s =
+abbrev pub called : Program → (x : ℕ) → List ℕ → (count : ℕ) → SortArgument → ℕ → List Plain → State → Rule
+called p x name count wanted d vs s =
     if is_some (constructor p.declarations name count) then literal (node name (plains_of vs)) s
     else if has_function p x name then function_call p x name vs d s
     else library_call p name wanted vs s
 
--- a `#S` or `#start[S]` among the arguments is no expression; another one is a part
-abbrev pub argument : Exp → e.Exp-F Exp Suffix Case Handler Stat → ℕ → (SortArgument → List Plain → State → Rule) → State → Rule
-argument x (e.TypeName place name) d go s = go (sort name.name) [] s
-argument x (e.StartSort place start_place name) d go s = go (start_sort name.name) [] s
-argument x layer d go s = part x d s (λ v. go no_sort (v ∷ []))
+-- `#S` and `#start[S]` among the arguments are no expressions
+
+abbrev pub sort_in : e.Exp-F Exp Suffix Case Handler Stat → SortArgument
+sort_in (e.TypeName place name) = sort name.name
+sort_in (e.StartSort place start_place name) = start_sort name.name
+sort_in layer = no_sort
 
 abbrev pub first_sort : SortArgument → SortArgument → SortArgument
 first_sort no_sort other = other
 first_sort one other = one
 
-abbrev pub arguments : List Exp → ℕ → SortArgument → List Plain → (SortArgument → List Plain → State → Rule) → State → Rule
-arguments [] d one vs go s = go one vs s
-arguments (x ∷ xs) d one vs go s = argument x (out-Exp x) d (λ other us. arguments xs d (first_sort one other) (vs ++ us) go) s
+-- the first of them
+abbrev pub sort_among : List Exp → SortArgument
+sort_among [] = no_sort
+sort_among (x ∷ xs) = first_sort (sort_in (out-Exp x)) (sort_among xs)
+
+abbrev pub before_operands : Exp → SortArgument → List Exp → List Exp
+before_operands x no_sort xs = x ∷ xs
+before_operands x one xs = xs
+
+-- the other arguments
+abbrev pub operands : List Exp → List Exp
+operands [] = []
+operands (x ∷ xs) = before_operands x (sort_in (out-Exp x)) (operands xs)
 
 abbrev pub call : Program → Identifier → List Exp → ℕ → State → Rule
-call p name xs d s = arguments xs d no_sort [] (λ one vs. call_with p name.place.module name.name (length xs) one vs d) s
+call p name xs d = parts (operands xs) d (called p name.place.module name.name (length xs) (sort_among xs) d) []

@@ -15,9 +15,12 @@ use Rattle.rl_rules.specs.Rule.{Outcome, Ins, Miss, Rule, Give, after, done}
 use Rattle.rl_rules.specs.Scopes.{scoped, statements}
 use Rattle.rl_rules.specs.State.{State}
 
+abbrev pub inserted_value : Plain → State → Rule
+inserted_value v s = Give (Ins v) s
+
 -- `insert e;` at depth d
 abbrev pub insert : Exp → ℕ → State → Rule
-insert x d s = part x d s (λ v t. Give (Ins v) t)
+insert x d s = part x d s inserted_value
 
 -- `case p => e when conditions` is the statement `insert e` under the conditions
 abbrev pub inserted : Program → Exp → List Exp → ℕ → State → Rule

@@ -9,7 +9,7 @@ use Rattle.rl_rules.specs.Parts.{part}
 use Rattle.rl_rules.specs.Program.{Program}
 use Rattle.rl_rules.specs.Rule.{Outcome, Miss, Kept, Rule, Give, after, done}
 use Rattle.rl_rules.specs.Scopes.{scoped}
-use Rattle.rl_rules.specs.State.{State, top_list, begin_comprehension, collect, end_comprehension, begin_reducer, set_it, end_reducer}
+use Rattle.rl_rules.specs.State.{State, top_list, begin_pile, collect, end_pile, begin_reducer, set_it, end_reducer}
 
 -- adds to what the comprehension has collected
 abbrev pub collecting : List Plain → State → Rule
@@ -17,19 +17,19 @@ collecting vs s = done (collect vs s)
 
 -- the value of what was collected, after all members
 abbrev pub collected_value : (List Plain → Plain) → State → Rule
-collected_value made s = literal (made (top_list s.collected)) (end_comprehension s)
+collected_value made s = literal (made (top_list s.collected)) (end_pile s)
 
 abbrev pub collected : (List Plain → Plain) → Outcome → State → Rule
 collected made Kept s = collected_value made s
 collected made Miss s = collected_value made s
-collected made r s = Give r (end_comprehension s)
+collected made r s = Give r (end_pile s)
 
 -- the body collects for each member of the conditions
 abbrev pub comprehension : Program → (List Plain → Plain) → (ℕ → State → Rule) → List Exp → ℕ → State → Rule
-comprehension p made body cs d s = after (scoped (for_each p cs d (body d)) (begin_comprehension s)) (collected made)
+comprehension p made body cs d s = after (scoped (for_each p cs d (body d)) (begin_pile s)) (collected made)
 
 abbrev pub elements_body : List Exp → ℕ → State → Rule
-elements_body xs d = elements xs d [] collecting
+elements_body xs d = elements xs d collecting []
 
 abbrev pub list_comprehension : Program → List Exp → List Exp → ℕ → State → Rule
 list_comprehension p xs = comprehension p list_of (elements_body xs)
@@ -38,8 +38,14 @@ abbrev pub set_comprehension : Program → List Exp → List Exp → ℕ → Sta
 set_comprehension p xs = comprehension p set_of (elements_body xs)
 
 -- a key and its value are collected as a pair
+abbrev pub collecting_entry : Plain → Plain → State → Rule
+collecting_entry k v = collecting (tuple (plains_of (k ∷ v ∷ [])) ∷ [])
+
+abbrev pub entry_key : Exp → ℕ → Plain → State → Rule
+entry_key y d k s = part y d s (collecting_entry k)
+
 abbrev pub entry_body : Exp → Exp → ℕ → State → Rule
-entry_body x y d s = part x d s (λ k t. part y d t (λ v. collecting (tuple (plains_of (k ∷ v ∷ [])) ∷ [])))
+entry_body x y d s = part x d s (entry_key y d)
 
 abbrev pub pair_in : List Plain → List (Plain × Plain) → List (Plain × Plain)
 pair_in (k ∷ v ∷ vs) ps = (k, v) ∷ ps
@@ -53,17 +59,26 @@ abbrev pub entries_in : List Plain → List (Plain × Plain)
 entries_in [] = []
 entries_in (v ∷ vs) = entry_in v (entries_in vs)
 
+abbrev pub map_of_pairs : List Plain → Plain
+map_of_pairs vs = map_of (entries_in vs)
+
 abbrev pub map_comprehension : Program → Exp → Exp → List Exp → ℕ → State → Rule
-map_comprehension p x y = comprehension p (λ vs. map_of (entries_in vs)) (entry_body x y)
+map_comprehension p x y = comprehension p map_of_pairs (entry_body x y)
 
 -- sets `it` to the value of the step
+abbrev pub step_value : Plain → State → Rule
+step_value v s = done (set_it v s)
+
 abbrev pub stepping : Exp → ℕ → State → Rule
-stepping step d s = part step d s (λ v t. done (set_it v t))
+stepping step d s = part step d s step_value
+
+abbrev pub leave_reducer : Outcome → State → Rule
+leave_reducer r s = Give r (end_reducer s)
 
 abbrev pub reduced : Outcome → State → Rule
-reduced Kept s = after (it s) (λ r t. Give r (end_reducer t))
-reduced Miss s = after (it s) (λ r t. Give r (end_reducer t))
-reduced r s = Give r (end_reducer s)
+reduced Kept s = after (it s) leave_reducer
+reduced Miss s = after (it s) leave_reducer
+reduced r s = leave_reducer r s
 
 abbrev pub reducing : Program → Exp → List Exp → ℕ → Plain → State → Rule
 reducing p step cs d v s = after (scoped (for_each p cs d (stepping step d)) (begin_reducer v s)) reduced

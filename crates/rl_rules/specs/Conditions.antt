@@ -1,7 +1,6 @@
 -- Lists of conditions.
 use Rattle.std.specs.Prelude.{ℕ, zero, suc, ◌+◌, true, false, List, [], ◌∷◌, flat_map, Option, Some, None}
-use Rattle.rl_exception.specs.Exceptions.{wrong_kind}
-use Rattle.rl_match.specs.Bindings.{bindings}
+use Rattle.rl_match.specs.Bindings.{Binding, bindings}
 use Rattle.rl_syntax.specs.declared.expression.Exp.{Exp, out-Exp}
 use Rattle.rl_syntax.specs.declared.expression.Exp.TheOpen as e
 use Rattle.rl_syntax.specs.declared.expression.Suffix.{Suffix}
@@ -12,9 +11,10 @@ use Rattle.rl_syntax.specs.declared.statement.Stat.{Stat}
 use Rattle.rl_value.specs.Plain.{Plain, bool, list, set, mapping, items_of, Pairs, no_pairs, pair}
 use Rattle.rl_rules.specs.Form.{expression}
 use Rattle.rl_rules.specs.Members.{members, on_tested}
-use Rattle.rl_rules.specs.Parts.{greatest_height, nested, part}
+use Rattle.rl_rules.specs.Nesting.{levels}
+use Rattle.rl_rules.specs.Parts.{nested, part}
 use Rattle.rl_rules.specs.Program.{Program, context}
-use Rattle.rl_rules.specs.Rule.{Outcome, Val, Miss, Kept, Rule, Give, Use, after, on_value, throw, give}
+use Rattle.rl_rules.specs.Rule.{Outcome, Val, Miss, Kept, Rule, Give, Use, after, on_value, wrong_operand, give}
 use Rattle.rl_rules.specs.State.{State}
 
 -- Which conditions a list has: `a && b` in it is two conditions, and parentheses count for nothing.
@@ -29,15 +29,16 @@ abbrev pub conditions_within : ℕ → Exp → List Exp
 conditions_within zero x = x ∷ []
 conditions_within (suc n) x = taken_apart x (conditions_within n) (out-Exp x)
 
+-- the conditions that an expression is in a list of conditions
 unfoldable pub conditions_in : Exp → List Exp
-conditions_in x = conditions_within greatest_height x
+conditions_in x = conditions_within (levels x) x
 
 -- What they do.
 
 abbrev pub on_truth : (where_true where_false : State → Rule) → Plain → State → Rule
 on_truth where_true where_false (bool true) s = where_true s
 on_truth where_true where_false (bool false) s = where_false s
-on_truth where_true where_false v s = throw wrong_kind s
+on_truth where_true where_false v s = wrong_operand s
 
 abbrev pub keys_of : Pairs → List Plain
 keys_of no_pairs = []
@@ -50,18 +51,23 @@ elements_of (set vs) = Some (items_of vs)
 elements_of (mapping ps) = Some (keys_of ps)
 elements_of v = None
 
--- the bindings of the pattern on the value, fixed now
+-- the bindings of the pattern on the value, fixed with what variables have now
+abbrev pub matched_members : Program → Pattern → (State → Rule) → Plain → State → Rule
+matched_members p pattern rest v s = members (bindings (context p s) pattern v []) false rest s
+
 abbrev pub members_of : Program → Pattern → (State → Rule) → Plain → State → Rule
-members_of p pattern rest v s = on_tested (pattern ∷ []) (λ t. members (bindings (context p t) pattern v []) false rest t) s
+members_of p pattern rest v = on_tested (pattern ∷ []) (matched_members p pattern rest v)
 
 -- those on each element, in order
-abbrev pub members_of_each : Program → Pattern → (State → Rule) → List Plain → State → Rule
-members_of_each p pattern rest vs s =
-    on_tested (pattern ∷ []) (λ t. members (flat_map (λ v. bindings (context p t) pattern v []) vs) false rest t) s
+abbrev pub bindings_on_each : Program → Pattern → List Plain → State → List Binding
+bindings_on_each p pattern vs s = flat_map (λ v. bindings (context p s) pattern v []) vs
+
+abbrev pub enumerated_members : Program → Pattern → (State → Rule) → List Plain → State → Rule
+enumerated_members p pattern rest vs s = members (bindings_on_each p pattern vs s) false rest s
 
 abbrev pub enumerated_elements : Program → Pattern → (State → Rule) → Option (List Plain) → State → Rule
-enumerated_elements p pattern rest None s = throw wrong_kind s
-enumerated_elements p pattern rest (Some vs) s = members_of_each p pattern rest vs s
+enumerated_elements p pattern rest None s = wrong_operand s
+enumerated_elements p pattern rest (Some vs) s = on_tested (pattern ∷ []) (enumerated_members p pattern rest vs) s
 
 abbrev pub enumerated : Program → Pattern → (State → Rule) → Plain → State → Rule
 enumerated p pattern rest v s = enumerated_elements p pattern rest (elements_of v) s
@@ -93,8 +99,11 @@ abbrev pub kept_of : Outcome → State → Rule
 kept_of (Val v) s = Give Kept s
 kept_of r s = Give r s
 
+abbrev pub keeping : (State → Rule) → State → Rule
+keeping body s = after (body s) kept_of
+
 abbrev pub for_each : Program → List Exp → ℕ → (body : State → Rule) → State → Rule
-for_each p cs d body s = where_all p cs d (λ t. after (body t) kept_of) s
+for_each p cs d body = where_all p cs d (keeping body)
 
 -- Conditions as expressions.
 

@@ -1,14 +1,16 @@
 -- Small programs with what they print, how they end, and the units that are left.
-use Rattle.std.specs.Prelude.{◌≡◌, ℕ, pos, true, false, [], ◌∷◌, codes}
+use Rattle.std.specs.Prelude.{◌≡◌, ℕ, pos, true, false, [], ◌∷◌, Some, None, codes}
 use Rattle.rl_base.specs.Holds.{FileMap}
 use Rattle.rl_exception.specs.Exceptions.{uninitialized_variable, index_out_of_bounds, stack_overflow}
-use Rattle.rl_rules.specs.Building.{main, program, program_with, constructor, function, default_function, void_type, int_type, bool_type, print_line, text, truth, run, done, cut, block, increase, variable, less, declare, assign, finally, catching, trying, catch, only, Came, came_of, return, throw, fail, break, continue, nothing, repeat, repeat_after, provided, number, list, set, pair, plus, it, reduce, matches, enumerate, each, switch, on, new, test, rest, one, number_pattern, text_pattern, list_pattern, set_pattern, pair_pattern, subscript, fallback, global, call, sort_argument, visit, replace, constructor_pattern, named_type}
+use Rattle.rl_rules.specs.Building.{main, program, program_with, constructor, function, default_function, void_type, int_type, bool_type, print_line, text, truth, run, done, cut, block, increase, variable, less, declare, assign, finally, catching, trying, catch, only, Came, came_of, return, throw, fail, break, continue, nothing, repeat, repeat_after, provided, number, list, set, pair, plus, it, reduce, matches, enumerate, each, switch, on, new, test, rest, one, number_pattern, text_pattern, list_pattern, set_pattern, pair_pattern, subscript, fallback, global, call, sort_argument, visit, replace, constructor_pattern, named_type, append, loop_value, both, in_parentheses, collect, solve, assign_pair, assign_at, function_when, call_in_extended, program_of, module_named, extends}
 use Rattle.rl_rules.specs.Evaluation.{eval}
 use Rattle.rl_rules.specs.Form.{expression}
 use Rattle.rl_rules.specs.Program.{Program}
 use Rattle.rl_rules.specs.Rule.{Val, Thr}
 use Rattle.rl_rules.specs.Run.{first_state}
+use Rattle.rl_syntax.specs.declared.declaration.Modifier.TheVariants.{Default}
 use Rattle.rl_syntax.specs.declared.operator.Strategy.TheVariants.{TopDown, TopDownBreak, BottomUp, BottomUpBreak, Innermost, Outermost}
+use Rattle.rl_syntax.specs.declared.expression.Exp.{Exp}
 use Rattle.rl_syntax.specs.declared.operator.Strategy.{Strategy}
 use Rattle.rl_syntax.specs.declared.statement.Stat.{Stat}
 use Rattle.rl_types.specs.PlainType as plain
@@ -268,6 +270,122 @@ parsing = program_with (constructor (codes "parse") ((codes "s", plain.str) ∷ 
 -- `#S` costs nothing, but counts where a constructor with as many fields as there are arguments is looked for
 abbrev pub Parsing : FileMap → Type 0
 Parsing files = run parsing files 10 ≡ done (Val empty_tuple) 0 (codes "<>\nparse(\"a\")\n")
+
+-- void main() { println([x + 1 | x <- [1, 2]]); }
+abbrev pub collecting : Program
+collecting = main (print_line (collect (plus (variable 0) (number 1)) (enumerate (new 0) (list (number 1 ∷ number 2 ∷ [])) ∷ [])) ∷ [])
+
+abbrev pub Collecting : FileMap → Type 0
+Collecting files = run collecting files 17 ≡ done (Val empty_tuple) 0 (codes "[2,3]\n")
+
+-- void main() { int x = 1; int y = 2; <x, y> = <y, x>; println(x); println(y); }
+abbrev pub exchanging : Program
+exchanging = main (
+    declare 0 (number 1)
+    ∷ declare 1 (number 2)
+    ∷ assign_pair 0 1 (pair (variable 1) (variable 0))
+    ∷ print_line (variable 0)
+    ∷ print_line (variable 1)
+    ∷ [])
+
+-- the value is complete before the first variable is written
+abbrev pub Exchanging : FileMap → Type 0
+Exchanging files = run exchanging files 16 ≡ done (Val empty_tuple) 0 (codes "2\n1\n")
+
+-- void main() { list[list[int]] x = [[1], [2]]; x[1][0] = 5; println(x); }
+abbrev pub changing_inside : Program
+changing_inside = main (
+    declare 0 (list (list (number 1 ∷ []) ∷ list (number 2 ∷ []) ∷ []))
+    ∷ assign_at 0 (number 1) (number 0) (number 5)
+    ∷ print_line (variable 0)
+    ∷ [])
+
+abbrev pub ChangingInside : FileMap → Type 0
+ChangingInside files = run changing_inside files 15 ≡ done (Val empty_tuple) 0 (codes "[[1],[5]]\n")
+
+-- void main() { if (true && (x := 1)) println(x); println((y := 1) && y < 2); }
+abbrev pub joined_conditions : Program
+joined_conditions = main (
+    provided (both (truth true) (in_parentheses (matches (new 0) (number 1))) ∷ []) (print_line (variable 0))
+    ∷ print_line (both (in_parentheses (matches (new 1) (number 1))) (less (variable 1) (number 2)))
+    ∷ [])
+
+-- in a list of conditions `&&` takes no unit, and what is bound in its parts is seen behind them; as an expression it takes one
+abbrev pub JoinedConditions : FileMap → Type 0
+JoinedConditions files = run joined_conditions files 19 ≡ done (Val empty_tuple) 0 (codes "1\ntrue\n")
+
+-- int f(x) = 10 when x < 2; default int f(x) = 20; void main() { println(f(1)); println(f(3)); }
+abbrev pub under_conditions : Program
+under_conditions = program (
+    function_when None int_type (codes "f") (new 0 ∷ []) (number 10) (less (variable 0) (number 2) ∷ [])
+    ∷ function_when (Some Default) int_type (codes "f") (new 1 ∷ []) (number 20) []
+    ∷ function void_type (codes "main") [] (print_line (call (codes "f") (number 1 ∷ [])) ∷ print_line (call (codes "f") (number 3 ∷ [])) ∷ [])
+    ∷ [])
+
+abbrev pub UnderConditions : FileMap → Type 0
+UnderConditions files = run under_conditions files 24 ≡ done (Val empty_tuple) 0 (codes "10\n20\n")
+
+-- void main() { int x = 0; solve (x) { if (x < 2) x += 1; } println(x); }
+abbrev pub solving : Program
+solving = main (
+    declare 0 (number 0)
+    ∷ solve 0 (block (provided (less (variable 0) (number 2) ∷ []) (increase 0 (number 1)) ∷ []))
+    ∷ print_line (variable 0)
+    ∷ [])
+
+-- the body is used until it leaves the variable as it was
+abbrev pub Solving : FileMap → Type 0
+Solving files = run solving files 27 ≡ done (Val empty_tuple) 0 (codes "2\n")
+
+-- Main: extend A; int g() { return 1; } void main() { println(f()); }   A: int f() { return g(); } default int g() { return 2; }
+abbrev pub extending : Program
+extending = program_of (
+    module_named (codes "Main") (
+    extends (codes "A")
+    ∷ function int_type (codes "g") [] (return (number 1) ∷ [])
+    ∷ function void_type (codes "main") [] (print_line (call (codes "f") []) ∷ [])
+    ∷ [])
+    ∷ module_named (codes "A") (
+    function int_type (codes "f") [] (return (call_in_extended (codes "g") []) ∷ [])
+    ∷ default_function int_type (codes "g") [] (return (number 2) ∷ [])
+    ∷ [])
+    ∷ []) (1 ∷ 0 ∷ []) []
+
+-- a call in an extended module finds the alternatives of the module that acts
+abbrev pub Extending : FileMap → Type 0
+Extending files = run extending files 13 ≡ done (Val empty_tuple) 0 (codes "1\n")
+
+-- visit (x) { case n: append n; }
+abbrev pub append_in_visit : ℕ → ℕ → Exp
+append_in_visit x n = visit BottomUp (variable x) (on (new n) (append (variable n) ∷ []) ∷ []) int_type
+
+-- for (y <- [visit (x) { case n: append n; }])
+abbrev pub over_visit : ℕ → Stat → Stat
+over_visit x body = each (enumerate (new 1) (list (append_in_visit x 2 ∷ [])) ∷ []) body
+
+-- void main() { l = for (x <- [1]) { for (y <- [visit (x) { case n: append n; }]) ; } println(l); }
+abbrev pub appending_in_conditions : Program
+appending_in_conditions = main (
+    declare 3 (loop_value (each (enumerate (new 0) (list (number 1 ∷ [])) ∷ []) (over_visit 0 nothing)))
+    ∷ print_line (variable 3)
+    ∷ [])
+
+-- an `append` in a loop's conditions adds to the loop in whose body that loop stands
+abbrev pub AppendingInConditions : FileMap → Type 0
+AppendingInConditions files = run appending_in_conditions files 22 ≡ done (Val empty_tuple) 0 (codes "[1]\n")
+
+-- void main() { for (x <- [1]) { l = for (y <- [visit (x) { case n: append n; }]) append "a"; println(l[0] + "b"); } }
+abbrev pub appending_in_body : Program
+appending_in_body = main (
+    each (enumerate (new 0) (list (number 1 ∷ [])) ∷ []) (block (
+    declare 3 (loop_value (over_visit 0 (append (text (codes "a")))))
+    ∷ print_line (plus (subscript (variable 3) (number 0)) (text (codes "b")))
+    ∷ []))
+    ∷ [])
+
+-- an `append` in a loop's body adds to that loop alone
+abbrev pub AppendingInBody : FileMap → Type 0
+AppendingInBody files = run appending_in_body files 28 ≡ done (Val empty_tuple) 0 (codes "ab\n")
 
 -- data T = f(T t) | a(); void main() { println(visit (f(a())) { case f(x) => x }); }
 abbrev pub visiting : Program

@@ -10,9 +10,9 @@ use Rattle.rl_value.specs.Plain.{Plain, node, items_of}
 use Rattle.rl_rules.specs.Cases.{on_miss}
 use Rattle.rl_rules.specs.Conditions.{members_of}
 use Rattle.rl_rules.specs.Members.{members, empty_member}
-use Rattle.rl_rules.specs.Parts.{part, used}
+use Rattle.rl_rules.specs.Parts.{value_of, used}
 use Rattle.rl_rules.specs.Program.{Program}
-use Rattle.rl_rules.specs.Rule.{Outcome, Val, Thr, Rule, Give, after, give, throw}
+use Rattle.rl_rules.specs.Rule.{Outcome, Val, Thr, Rule, Give, after, throw}
 use Rattle.rl_rules.specs.Scopes.{scoped}
 use Rattle.rl_rules.specs.State.{State}
 
@@ -57,8 +57,8 @@ is_missing v = false
 
 -- after a: b in place of such an exception, from the store that the throw left
 abbrev pub fallen_back : Exp → ℕ → Outcome → State → Rule
-fallen_back b d (Thr v) s = if is_missing v then part b d s give else throw v s
+fallen_back b d (Thr v) s = if is_missing v then value_of b d s else throw v s
 fallen_back b d r s = Give r s
 
 abbrev pub fallback : Exp → Exp → ℕ → State → Rule
-fallback a b d s = after (part a d s give) (fallen_back b d)
+fallback a b d s = after (value_of a d s) (fallen_back b d)

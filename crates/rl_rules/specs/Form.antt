@@ -7,7 +7,7 @@ use Rattle.rl_syntax.specs.declared.operator.Strategy.{Strategy}
 use Rattle.rl_syntax.specs.declared.statement.Case.{Case}
 use Rattle.rl_syntax.specs.declared.statement.Stat.{Stat}
 use Rattle.rl_syntax.specs.declared.ty.Ty.{Ty}
-use Rattle.rl_modules.specs.Visible.{Alternative}
+use Rattle.rl_visibility.specs.Visible.{Alternative}
 use Rattle.rl_visit.specs.Walk.{Answer}
 
 -- the next turn of what repeats

@@ -4,10 +4,15 @@ use Rattle.rl_base.specs.Holds.{FileMap}
 use Rattle.rl_match.specs.Bindings.{Binding}
 use Rattle.rl_syntax.specs.declared.statement.Handler.{Handler}
 use Rattle.rl_syntax.specs.declared.statement.Stat.{Stat}
-use Rattle.rl_rules.specs.Evaluation.{Evaluation, Ran, Done, Cut, on_done, run_by, eval, printed}
+use Rattle.rl_syntax.specs.declared.expression.Exp.{Exp, out-Exp}
+use Rattle.rl_syntax.specs.declared.pattern.Pattern.{Pattern}
+use Rattle.rl_value.specs.Plain.{Plain}
+use Rattle.rl_rules.specs.Conditions.{conditions_in, taken_apart, members_of, enumerated}
+use Rattle.rl_rules.specs.Evaluation.{Evaluation, Ran, Done, Cut, Stuck, Reading, on_done, run_as, eval_as, printed}
 use Rattle.rl_rules.specs.Exceptions.{try}
 use Rattle.rl_rules.specs.Form.{Form, statement, Turn, turn}
 use Rattle.rl_rules.specs.Members.{members}
+use Rattle.rl_rules.specs.Parts.{bare, inside}
 use Rattle.rl_rules.specs.Program.{Program}
 use Rattle.rl_rules.specs.Rule.{Outcome, Val, Miss, Fail, Rule}
 use Rattle.rl_rules.specs.Rules.{entered}
@@ -19,26 +24,38 @@ TakesUnit (turn w) = ⊥
 TakesUnit f = ⊤
 
 -- The equation of evaluation: without a unit a form is cut; else its evaluation is its rule's, with one unit less. A turn's is its rule's.
-pub record IsByRules (p : Program) (files : FileMap) : Type 0 where
-  pub cut : (f : Form) → TakesUnit f → (d : ℕ) (s : State) (t : List ℕ) → eval p files f d s 0 t ≡ Cut t
+pub record IsByRules (reading : Reading) (p : Program) (files : FileMap) : Type 0 where
+  pub cut : (f : Form) → TakesUnit f → (d : ℕ) (s : State) (t : List ℕ) → eval_as reading p files f d s 0 t ≡ Cut t
   pub forms : (f : Form) → TakesUnit f → (d : ℕ) (s : State) (n : ℕ) (t : List ℕ)
-      → eval p files f d s (suc n) t ≡ run_by files (eval p files) (entered p d f s) n t
+      → eval_as reading p files f d s (suc n) t ≡ run_as reading files (eval_as reading p files) (entered p d f s) n t
   pub turns : (w : Turn) (d : ℕ) (s : State) (n : ℕ) (t : List ℕ)
-      → eval p files (turn w) d s n t ≡ run_by files (eval p files) (entered p d (turn w) s) n t
+      → eval_as reading p files (turn w) d s n t ≡ run_as reading files (eval_as reading p files) (entered p d (turn w) s) n t
 
 -- at most so many units are left
 abbrev pub Leaves : ℕ → Ran → Type 0
 Leaves n (Done r s m t) = m ≤ n
 Leaves n (Cut t) = ⊤
+Leaves n (Stuck t) = ⊤
 
 -- the second list begins with the first
 abbrev pub GoesOnFrom : List ℕ → List ℕ → Type 0
 GoesOnFrom t u = (rest : List ℕ) × (t ++ rest ≡ u)
 
--- with k more units: what is done is done alike, with k more left, and what was cut goes on from what was printed
+-- with k more units: what is done is done alike, with k more left, what was cut goes on from what was printed, and what is stuck stays so
 abbrev pub More : ℕ → Ran → Ran → Type 0
 More k (Done r s m t) ran = ran ≡ Done r s (m + k) t
 More k (Cut t) ran = GoesOnFrom t (printed ran)
+More k (Stuck t) ran = ran ≡ Stuck t
+
+-- Parentheses and conjunctions.
+
+-- an expression in parentheses is what it is in them, however many there are
+abbrev pub BareIsByForm : Type 0
+BareIsByForm = (x : Exp) → bare x ≡ inside x bare (out-Exp x)
+
+-- the conditions of an expression are by its form, and by those of the expressions in it
+abbrev pub ConditionsAreByForm : Type 0
+ConditionsAreByForm = (x : Exp) → conditions_in x ≡ taken_apart x conditions_in (out-Exp x)
 
 -- Members.
 
@@ -49,15 +66,25 @@ IsAbandoned Fail = ⊤
 IsAbandoned r = ⊥
 
 -- Where what follows under a member is abandoned, the next members follow from the state before it, with the units that are left and after what was printed.
-abbrev pub AbandonedIsTakenBack : FileMap → Evaluation → Type 0
-AbandonedIsTakenBack files e = (b : Binding) (bs : List Binding) (any : Bool) (under : State → Rule) (s : State) (n : ℕ) (t : List ℕ) (r : Outcome) (left : State) (m : ℕ) (u : List ℕ)
-    → run_by files e (under (declare_all b s)) n t ≡ Done r left m u → IsAbandoned r
-    → run_by files e (members (b ∷ bs) any under s) (suc n) t ≡ run_by files e (members bs any under s) m u
+abbrev pub AbandonedIsTakenBack : Reading → FileMap → Evaluation → Type 0
+AbandonedIsTakenBack reading files e = (b : Binding) (bs : List Binding) (any : Bool) (under : State → Rule) (s : State) (n : ℕ) (t : List ℕ) (r : Outcome) (left : State) (m : ℕ) (u : List ℕ)
+    → run_as reading files e (under (declare_all b s)) n t ≡ Done r left m u → IsAbandoned r
+    → run_as reading files e (members (b ∷ bs) any under s) (suc n) t ≡ run_as reading files e (members bs any under s) m u
 
 -- Where no member is kept, the state is what it was before all of them.
-abbrev pub MissLeavesState : FileMap → Evaluation → Type 0
-MissLeavesState files e = (bs : List Binding) (under : State → Rule) (s : State) (n : ℕ) (t : List ℕ) (left : State) (m : ℕ) (u : List ℕ)
-    → run_by files e (members bs false under s) n t ≡ Done Miss left m u → left ≡ s
+abbrev pub MissLeavesState : Reading → FileMap → Evaluation → Type 0
+MissLeavesState reading files e = (bs : List Binding) (under : State → Rule) (s : State) (n : ℕ) (t : List ℕ) (left : State) (m : ℕ) (u : List ℕ)
+    → run_as reading files e (members bs false under s) n t ≡ Done Miss left m u → left ≡ s
+
+-- So where the conditions behind a match do not hold, the state is what it was after the operand.
+abbrev pub MatchLeavesState : Reading → Program → FileMap → Evaluation → Type 0
+MatchLeavesState reading p files e = (pattern : Pattern) (rest : State → Rule) (v : Plain) (s : State) (n : ℕ) (t : List ℕ) (left : State) (m : ℕ) (u : List ℕ)
+    → run_as reading files e (members_of p pattern rest v s) n t ≡ Done Miss left m u → left ≡ s
+
+-- and behind an enumeration
+abbrev pub EnumerationLeavesState : Reading → Program → FileMap → Evaluation → Type 0
+EnumerationLeavesState reading p files e = (pattern : Pattern) (rest : State → Rule) (v : Plain) (s : State) (n : ℕ) (t : List ℕ) (left : State) (m : ℕ) (u : List ℕ)
+    → run_as reading files e (enumerated p pattern rest v s) n t ≡ Done Miss left m u → left ≡ s
 
 -- `finally`.
 
@@ -67,9 +94,9 @@ end_with before (Val v) = before
 end_with before r = r
 
 -- Whatever the end before it, the statement is used once, and then the whole ends.
-abbrev pub FinallyIsUsedOnce : Program → FileMap → Evaluation → Type 0
-FinallyIsUsedOnce p files e = (body last : Stat) (hs : List Handler) (d : ℕ) (s : State) (n : ℕ) (t : List ℕ)
-    → run_by files e (try p body hs (Some last) d s) n t
-    ≡ on_done (run_by files e (try p body hs None d s) n t) (λ r s' m u.
+abbrev pub FinallyIsUsedOnce : Reading → Program → FileMap → Evaluation → Type 0
+FinallyIsUsedOnce reading p files e = (body last : Stat) (hs : List Handler) (d : ℕ) (s : State) (n : ℕ) (t : List ℕ)
+    → run_as reading files e (try p body hs (Some last) d s) n t
+    ≡ on_done (run_as reading files e (try p body hs None d s) n t) (λ r s' m u.
     on_done (e (statement last) (d + 1) (open_scope s') m u) (λ q s'' k v.
     Done (end_with r q) (close_scope s'') k v))

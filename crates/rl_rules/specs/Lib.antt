@@ -2,6 +2,7 @@ pub mod State
 pub mod Form
 pub mod Rule
 pub mod Program
+pub mod Nesting
 pub mod Parts
 pub mod Scopes
 pub mod Members
@@ -23,6 +24,7 @@ pub mod Statements
 pub mod Rules
 pub mod Evaluation
 pub mod Run
+pub mod Fronts
 pub mod Laws
 pub mod Building
 pub mod Examples

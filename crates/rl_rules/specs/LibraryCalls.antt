@@ -2,17 +2,17 @@
 use Rattle.std.specs.Prelude.{ℕ, ◌^◌, ◌||◌, nat_eq, nat_le, Bool, true, false, if◌then◌else◌, List, [], ◌∷◌, ◌++◌, length, Option, Some, None, Result, Ok, Err, codes, bytes_eq, find, option_map}
 use Rattle.std.specs.List.{list_any}
 use Rattle.rl_base.specs.Decode.{text_of}
-use Rattle.rl_exception.specs.Exceptions.{wrong_kind, path_not_found, io_exception}
-use Rattle.rl_ops.specs.Library.{library_of}
-use Rattle.rl_ops.specs.declared.functions.Lib.{Lib}
-use Rattle.rl_ops.specs.declared.functions.Lib.TheVariants as lib
+use Rattle.rl_exception.specs.Exceptions.{path_not_found, io_exception}
+use Rattle.rl_library.specs.Library.{library_of}
+use Rattle.rl_library.specs.declared.functions.Lib.{Lib}
+use Rattle.rl_library.specs.declared.functions.Lib.TheVariants as lib
 use Rattle.rl_print.specs.Printed.{shown_of}
 use Rattle.rl_value.specs.declared.shape.Scheme.TheVariants.{Cwd}
-use Rattle.rl_value.specs.Plain.{Plain, text, location}
+use Rattle.rl_value.specs.Plain.{Plain, text, location, tree}
 use Rattle.rl_rules.specs.Literals.{literal}
 use Rattle.rl_rules.specs.Parts.{raise}
 use Rattle.rl_rules.specs.Program.{Program}
-use Rattle.rl_rules.specs.Rule.{Rule, Print, Read, done, give_answer, throw}
+use Rattle.rl_rules.specs.Rule.{Rule, Print, Read, done, give_answer, wrong_operand}
 use Rattle.rl_rules.specs.State.{State}
 
 -- `#S` or `#start[S]` among the arguments
@@ -61,18 +61,18 @@ read_path path place s = if list_any is_no_name (segments_of path) then raise (p
 abbrev pub read_file : Plain → State → Rule
 read_file (location Cwd path None) s = read_path path (location Cwd path None) s
 read_file (location scheme path span) s = raise (path_not_found (location scheme path span)) s
-read_file v s = throw wrong_kind s
+read_file v s = wrong_operand s
 
 -- Parsing: what the grammar gives.
 
 abbrev pub parse : Program → SortArgument → Plain → State → Rule
 parse p (sort name) (text bytes) s = give_answer (p.grammars.parsed name false bytes) s
 parse p (start_sort name) (text bytes) s = give_answer (p.grammars.parsed name true bytes) s
-parse p one v s = throw wrong_kind s
+parse p one v s = wrong_operand s
 
 abbrev pub implode : Program → SortArgument → Plain → State → Rule
-implode p (sort name) v s = give_answer (p.grammars.imploded name v) s
-implode p one v s = throw wrong_kind s
+implode p (sort name) (tree shape ts) s = give_answer (p.grammars.imploded name (tree shape ts)) s
+implode p one v s = wrong_operand s
 
 -- By names. Another number of arguments, or a name that no function has, is none that a program without faults uses.
 
@@ -120,12 +120,12 @@ abbrev pub function_named : List ℕ → Option Lib
 function_named name = option_map (λ known. known.1) (find (λ known. bytes_eq name known.0) function_names)
 
 abbrev pub by_definition : Option Lib → List Plain → State → Rule
-by_definition None vs s = throw wrong_kind s
+by_definition None vs s = wrong_operand s
 by_definition (Some function) vs s = give_answer (library_of function vs) s
 
 abbrev pub on_one : (Plain → State → Rule) → List Plain → State → Rule
 on_one rule (v ∷ []) s = rule v s
-on_one rule vs s = throw wrong_kind s
+on_one rule vs s = wrong_operand s
 
 abbrev pub library_call : Program → List ℕ → SortArgument → List Plain → State → Rule
 library_call p name one vs s =

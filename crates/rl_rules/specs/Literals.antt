@@ -1,13 +1,13 @@
 -- Literals, variables, `it` and interpolated strings.
 use Rattle.std.specs.Prelude.{ℕ, List, [], ◌∷◌, ◌++◌, Option, Some, None}
 use Rattle.rl_exception.specs.Answer.{fitting}
-use Rattle.rl_exception.specs.Exceptions.{uninitialized_variable, wrong_kind}
+use Rattle.rl_exception.specs.Exceptions.{uninitialized_variable}
 use Rattle.rl_print.specs.Printed.{shown_of}
 use Rattle.rl_syntax.specs.declared.expression.Exp.{Exp}
 use Rattle.rl_syntax.specs.declared.identifier.Identifier.{Identifier}
 use Rattle.rl_value.specs.Plain.{Plain, text}
-use Rattle.rl_rules.specs.Parts.{parts, raise}
-use Rattle.rl_rules.specs.Rule.{Rule, give, give_answer, throw}
+use Rattle.rl_rules.specs.Parts.{part, raise}
+use Rattle.rl_rules.specs.Rule.{Rule, give, give_answer, wrong_operand}
 use Rattle.rl_rules.specs.State.{State, read, it_of}
 
 -- its own value, where it fits
@@ -31,20 +31,17 @@ variable x = with_variable x give
 
 -- outside of a reducer, where no program has it, it has no value of any kind
 abbrev pub it_or_none : Option Plain → State → Rule
-it_or_none None s = throw wrong_kind s
+it_or_none None s = wrong_operand s
 it_or_none (Some v) s = give v s
 
 abbrev pub it : State → Rule
 it s = it_or_none (it_of s) s
 
--- the texts with the shown values between them
-abbrev pub interpolated : List (List ℕ) → List Plain → List ℕ
-interpolated [] vs = []
-interpolated (t ∷ ts) [] = t ++ interpolated ts []
-interpolated (t ∷ ts) (v ∷ vs) = t ++ shown_of v ++ interpolated ts vs
+-- after a value: the text so far, the value as it is shown, and the text behind it
+abbrev pub shown_between : (List ℕ → State → Rule) → (before behind : List ℕ) → Plain → State → Rule
+shown_between go before behind v s = go (before ++ shown_of v ++ behind) s
 
-abbrev pub joined_text : List (List ℕ) → List Plain → State → Rule
-joined_text texts vs = literal (text (interpolated texts vs))
-
-abbrev pub interpolation : List (List ℕ) → List Exp → ℕ → State → Rule
-interpolation texts xs d = parts xs d [] (joined_text texts)
+-- the values with the texts behind them, after the text so far
+abbrev pub interpolation : List (Exp × List ℕ) → ℕ → List ℕ → State → Rule
+interpolation [] d before s = literal (text before) s
+interpolation ((x, behind) ∷ rest) d before s = part x d s (shown_between (interpolation rest d) before behind)

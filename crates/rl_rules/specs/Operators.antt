@@ -1,11 +1,10 @@
 -- Operators, subscripts, slices, ranges and fields.
-use Rattle.std.specs.Prelude.{ℕ, ◌+◌, Bool, true, false, if◌then◌else◌, List, [], ◌∷◌, Option, Some, None, bytes_eq, length}
+use Rattle.std.specs.Prelude.{ℕ, ◌+◌, Bool, true, false, if◌then◌else◌, List, [], ◌∷◌, Option, Some, None, bytes_eq, length, map}
 use Rattle.rl_access.specs.Elements.{subscript_of}
 use Rattle.rl_access.specs.Fields.{field_of}
 use Rattle.rl_access.specs.Ranges.{range_of}
 use Rattle.rl_access.specs.Slices.{slice_of}
 use Rattle.rl_exception.specs.Answer.{Answer}
-use Rattle.rl_exception.specs.Exceptions.{wrong_kind}
 use Rattle.rl_match.specs.Bindings.{bindings}
 use Rattle.rl_operators.specs.Comparison.{less_of, less_or_equal_of, greater_of, greater_or_equal_of}
 use Rattle.rl_operators.specs.Membership.{in_of, not_in_of, is_of}
@@ -33,7 +32,7 @@ use Rattle.rl_rules.specs.Form.{expression}
 use Rattle.rl_rules.specs.Members.{on_tested}
 use Rattle.rl_rules.specs.Parts.{bare, part, nested}
 use Rattle.rl_rules.specs.Program.{Program, context}
-use Rattle.rl_rules.specs.Rule.{Rule, Give, Use, after, on_value, give, give_answer, throw}
+use Rattle.rl_rules.specs.Rule.{Rule, Give, Use, after, on_value, give, give_answer, wrong_operand}
 use Rattle.rl_rules.specs.State.{State}
 
 -- One operator.
@@ -60,24 +59,27 @@ unary op x d s = part x d s (answered op)
 abbrev pub Operator : Type 0
 Operator = ℕ → Plain → State → Rule
 
+-- an operator behind what gives its left operand
+abbrev pub with_left : (State → Rule) → Operator → ℕ → State → Rule
+with_left left op d s = after (left s) (on_value (op d))
+
 -- the first operand with the operators behind it, the last one first; each operator takes a unit
 abbrev pub chain : Exp → List Operator → ℕ → State → Rule
 chain x [] d s = Use (expression (bare x)) d s Give
-chain x (op ∷ ops) d s = nested d (λ t. after (chain x ops (d + 1) t) (on_value (op d))) s
+chain x (op ∷ ops) d s = nested d (with_left (chain x ops (d + 1)) op d) s
 
 -- the chain of a form at depth d, which is its last operator and has taken its unit
 abbrev pub whole_chain : Exp → List Operator → ℕ → State → Rule
 whole_chain x [] d s = chain x [] d s
-whole_chain x (op ∷ ops) d s = after (chain x ops (d + 1) s) (on_value (op d))
+whole_chain x (op ∷ ops) d s = with_left (chain x ops (d + 1)) op d s
 
 -- the operators with their right operands, the last one first
 abbrev pub reversed : List Operator → List Operator → List Operator
 reversed [] behind = behind
 reversed (op ∷ ops) behind = reversed ops (op ∷ behind)
 
-abbrev pub in_chain : List Exp → List Operator → ℕ → State → Rule
-in_chain [] ops d s = throw wrong_kind s
-in_chain (x ∷ xs) ops d s = whole_chain x (reversed ops []) d s
+abbrev pub in_chain : Exp → List Operator → ℕ → State → Rule
+in_chain x ops = whole_chain x (reversed ops [])
 
 abbrev pub sum_operator : SumOperator → Plain → Plain → Answer
 sum_operator a.Add = add_of
@@ -89,44 +91,44 @@ product_operator m.Multiply = multiply_of
 product_operator m.Divide = divide_of
 product_operator m.Remainder = remainder_of
 
--- each operator before its right operand
-abbrev pub with_operands : {O : Type 0} → (O → Plain → Plain → Answer) → List O → List Exp → List Operator
-with_operands answer [] ys = []
-with_operands answer (op ∷ ops) [] = []
-with_operands answer (op ∷ ops) (y ∷ ys) = right_operand (answer op) y ∷ with_operands answer ops ys
+-- the operators with their right operands
+abbrev pub with_operands : {O : Type 0} → (O → Plain → Plain → Answer) → List (O × Exp) → List Operator
+with_operands answer [] = []
+with_operands answer ((op, y) ∷ rest) = right_operand (answer op) y ∷ with_operands answer rest
 
-abbrev pub behind_first : List Exp → List Exp
-behind_first [] = []
-behind_first (x ∷ xs) = xs
+abbrev pub sum : Exp → List (SumOperator × Exp) → ℕ → State → Rule
+sum x rest = in_chain x (with_operands sum_operator rest)
 
-abbrev pub sum : List Exp → List SumOperator → ℕ → State → Rule
-sum xs ops = in_chain xs (with_operands sum_operator ops (behind_first xs))
+abbrev pub product : Exp → List (ProductOperator × Exp) → ℕ → State → Rule
+product x rest = in_chain x (with_operands product_operator rest)
 
-abbrev pub product : List Exp → List ProductOperator → ℕ → State → Rule
-product xs ops = in_chain xs (with_operands product_operator ops (behind_first xs))
-
-abbrev pub each_operand : (Exp → Operator) → List Exp → List Operator
-each_operand op [] = []
-each_operand op (y ∷ ys) = op y ∷ each_operand op ys
+-- the same operator before each operand but the first, which stands alone where there is no other
+abbrev pub joined_by : (Exp → Operator) → List Exp → ℕ → State → Rule
+joined_by op [] d s = wrong_operand s
+joined_by op (x ∷ xs) d s = in_chain x (map op xs) d s
 
 abbrev pub composition : List Exp → ℕ → State → Rule
-composition xs = in_chain xs (each_operand (right_operand compose_of) (behind_first xs))
+composition = joined_by (right_operand compose_of)
 
 -- Truth values.
 
 abbrev pub truth : Plain → State → Rule
 truth v s = on_truth (give (bool true)) (give (bool false)) v s
 
+-- a part that must be true or false
+abbrev pub truth_part : Exp → ℕ → State → Rule
+truth_part y d s = part y d s truth
+
 -- the right operand of `||`, which is looked at only where the left one is false
 abbrev pub or_right : Exp → Operator
-or_right y d u s = on_truth (give (bool true)) (λ t. part y d t truth) u s
+or_right y d = on_truth (give (bool true)) (truth_part y d)
 
 abbrev pub disjunction : List Exp → ℕ → State → Rule
-disjunction xs = in_chain xs (each_operand or_right (behind_first xs))
+disjunction = joined_by or_right
 
 -- the right operand of `==>`, which is looked at only where the left one is true
 abbrev pub implied : Exp → Operator
-implied y d u s = on_truth (λ t. part y d t truth) (give (bool true)) u s
+implied y d = on_truth (truth_part y d) (give (bool true))
 
 abbrev pub implication : Exp → Exp → ℕ → State → Rule
 implication x y d s = part x d s (implied y d)
@@ -141,8 +143,11 @@ comparison_operator c.Greater = greater_of
 comparison_operator c.In = in_of
 comparison_operator c.NotIn = not_in_of
 
+abbrev pub is_of_name : List ℕ → Plain → Answer
+is_of_name name v = is_of v (text name)
+
 abbrev pub is_named : Exp → List ℕ → ℕ → State → Rule
-is_named x name = unary (λ v. is_of v (text name)) x
+is_named x name = unary (is_of_name name) x
 
 -- `p !:= e`: whether the pattern has no binding
 
@@ -150,8 +155,11 @@ abbrev pub is_empty_list : {A : Type 0} → List A → Bool
 is_empty_list [] = true
 is_empty_list (x ∷ xs) = false
 
+abbrev pub has_no_binding : Program → Pattern → Plain → State → Rule
+has_no_binding p pattern v s = give (bool (is_empty_list (bindings (context p s) pattern v []))) s
+
 abbrev pub unmatched : Program → Pattern → Plain → State → Rule
-unmatched p pattern v s = on_tested (pattern ∷ []) (λ t. give (bool (is_empty_list (bindings (context p t) pattern v []))) t) s
+unmatched p pattern v = on_tested (pattern ∷ []) (has_no_binding p pattern v)
 
 abbrev pub no_match : Program → Pattern → Exp → ℕ → State → Rule
 no_match p pattern x d s = part x d s (unmatched p pattern)
@@ -164,12 +172,15 @@ ranged u next v s = give_answer (range_of u next v) s
 abbrev pub range_end : Plain → Option Plain → Exp → ℕ → State → Rule
 range_end u next z d s = part z d s (ranged u next)
 
-abbrev pub range_second : Exp → ℕ → Plain → Option Exp → State → Rule
-range_second z d u None s = range_end u None z d s
-range_second z d u (Some y) s = part y d s (λ v. range_end u (Some v) z d)
+abbrev pub range_after_second : Exp → ℕ → Plain → Plain → State → Rule
+range_after_second z d u v s = range_end u (Some v) z d s
+
+abbrev pub range_after_first : Option Exp → Exp → ℕ → Plain → State → Rule
+range_after_first None z d u s = range_end u None z d s
+range_after_first (Some y) z d u s = part y d s (range_after_second z d u)
 
 abbrev pub range : Exp → Option Exp → Exp → ℕ → State → Rule
-range x y z d s = part x d s (λ u. range_second z d u y)
+range x y z d s = part x d s (range_after_first y z d)
 
 -- Suffixes.
 
@@ -190,16 +201,21 @@ field_place d name v = None
 abbrev pub field_answer : Declarations → List ℕ → Plain → Answer
 field_answer d name v = field_of v name (field_place d name v)
 
--- a bound of a slice, where there is one
-abbrev pub bound : Option Exp → ℕ → (Option Plain → State → Rule) → State → Rule
-bound None d go s = go None s
-bound (Some x) d go s = part x d s (λ v. go (Some v))
+-- a slice has a bound or none at each end
 
-abbrev pub sliced : Plain → Option Plain → Option Plain → State → Rule
-sliced u from to s = give_answer (slice_of u from to) s
+abbrev pub sliced_to : Plain → Option Plain → Plain → State → Rule
+sliced_to u from to s = give_answer (slice_of u from (Some to)) s
+
+abbrev pub slice_end : Option Exp → ℕ → Plain → Option Plain → State → Rule
+slice_end None d u from s = give_answer (slice_of u from None) s
+slice_end (Some y) d u from s = part y d s (sliced_to u from)
+
+abbrev pub slice_after_start : Option Exp → ℕ → Plain → Plain → State → Rule
+slice_after_start to d u from s = slice_end to d u (Some from) s
 
 abbrev pub slice : Option Exp → Option Exp → Operator
-slice from to d u s = bound from d (λ v. bound to d (sliced u v)) s
+slice None to d u s = slice_end to d u None s
+slice (Some x) to d u s = part x d s (slice_after_start to d u)
 
 abbrev pub suffix : Program → e.Suffix-F Exp Suffix Case Handler Stat → Operator
 suffix p (e.Subscript place y) d u s = right_operand subscript_of y d u s
@@ -213,4 +229,4 @@ suffixes p [] = []
 suffixes p (x ∷ xs) = suffix p (out-Suffix x) ∷ suffixes p xs
 
 abbrev pub suffixed : Program → Exp → List Suffix → ℕ → State → Rule
-suffixed p x xs d s = whole_chain x (reversed (suffixes p xs) []) d s
+suffixed p x xs = in_chain x (suffixes p xs)

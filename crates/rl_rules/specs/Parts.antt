@@ -10,7 +10,8 @@ use Rattle.rl_syntax.specs.declared.statement.Handler.{Handler}
 use Rattle.rl_syntax.specs.declared.statement.Stat.{Stat}
 use Rattle.rl_value.specs.Plain.{Plain}
 use Rattle.rl_rules.specs.Form.{expression, statement}
-use Rattle.rl_rules.specs.Rule.{Rule, Give, Use, Take, value, throw, give_answer}
+use Rattle.rl_rules.specs.Nesting.{levels}
+use Rattle.rl_rules.specs.Rule.{Rule, Give, Use, Take, value, throw, give, give_answer}
 use Rattle.rl_rules.specs.State.{State}
 
 -- the exception, where it fits
@@ -31,10 +32,6 @@ nested d rule s = Take (limited d rule s)
 
 -- Parentheses count for nothing.
 
--- Expressions nest no deeper than phrases do.
-abbrev pub greatest_height : ℕ
-greatest_height = 1000
-
 abbrev pub inside : Exp → (Exp → Exp) → e.Exp-F Exp Suffix Case Handler Stat → Exp
 inside x go (e.Parenthesized place y) = go y
 inside x go layer = x
@@ -44,18 +41,26 @@ abbrev pub unwrapped : ℕ → Exp → Exp
 unwrapped zero x = x
 unwrapped (suc n) x = inside x (unwrapped n) (out-Exp x)
 
--- the expression in its parentheses
+-- the expression in all its parentheses
 unfoldable pub bare : Exp → Exp
-bare x = unwrapped greatest_height x
+bare x = unwrapped (levels x) x
 
 -- an expression as a part of a form at depth d
 abbrev pub part : Exp → ℕ → State → (Plain → State → Rule) → Rule
 part x d s go = value (expression (bare x)) d s go
 
--- parts from the left; vs are the values of those before
-abbrev pub parts : List Exp → ℕ → List Plain → (List Plain → State → Rule) → State → Rule
-parts [] d vs go s = go vs s
-parts (x ∷ xs) d vs go s = part x d s (λ v. parts xs d (vs ++ v ∷ []) go)
+-- a part whose value is that of the form
+abbrev pub value_of : Exp → ℕ → State → Rule
+value_of x d s = part x d s give
+
+-- with one more value
+abbrev pub one_more : (List Plain → State → Rule) → List Plain → Plain → State → Rule
+one_more go vs v s = go (vs ++ v ∷ []) s
+
+-- parts from the left, after the values of those before
+abbrev pub parts : List Exp → ℕ → (List Plain → State → Rule) → List Plain → State → Rule
+parts [] d go vs s = go vs s
+parts (x ∷ xs) d go vs s = part x d s (one_more (parts xs d go) vs)
 
 -- a statement as a part of a form at depth d, with how it ends
 abbrev pub used : Stat → ℕ → State → Rule

@@ -1,7 +1,5 @@
 -- The rule of each form.
 use Rattle.std.specs.Prelude.{ℕ, true, false}
-use Rattle.rl_exception.specs.Exceptions.{wrong_kind}
-use Rattle.rl_operators.specs.Arithmetic.{}
 use Rattle.rl_operators.specs.Comparison.{equal_of, not_equal_of}
 use Rattle.rl_operators.specs.Logic.{equivalent_of, not_of}
 use Rattle.rl_operators.specs.Operators.{negate_of}
@@ -25,9 +23,9 @@ use Rattle.rl_rules.specs.Fragments.{fragment}
 use Rattle.rl_rules.specs.Literals.{literal, variable, it, interpolation}
 use Rattle.rl_rules.specs.Loops.{conditional, choice, for_loop, while_loop, while_turn, do_loop, do_turn}
 use Rattle.rl_rules.specs.Operators as o
-use Rattle.rl_rules.specs.Parts.{limited, part}
+use Rattle.rl_rules.specs.Parts.{limited, value_of}
 use Rattle.rl_rules.specs.Program.{Program}
-use Rattle.rl_rules.specs.Rule.{Brk, Cnt, Fail, Rule, Give, after, done, give, throw}
+use Rattle.rl_rules.specs.Rule.{Brk, Cnt, Fail, Rule, Give, after, done, wrong_operand}
 use Rattle.rl_rules.specs.Scopes.{scoped, block}
 use Rattle.rl_rules.specs.Solving.{solving, solve_turn}
 use Rattle.rl_rules.specs.State.{State}
@@ -45,7 +43,7 @@ abbrev pub loop_value : Program → e.Stat-F Exp Suffix Case Handler Stat → �
 loop_value p (e.For place cs body) d s = for_loop p cs body true d s
 loop_value p (e.While place cs body) d s = while_loop cs body true d s
 loop_value p (e.Do place body cs) d s = do_loop body cs true d s
-loop_value p x d s = throw wrong_kind s
+loop_value p x d s = wrong_operand s
 
 abbrev pub rule_of_expression : Program → ℕ → e.Exp-F Exp Suffix Case Handler Stat → State → Rule
 rule_of_expression p d (e.Conditional place c a b) s = choice c a b d s
@@ -61,23 +59,23 @@ rule_of_expression p d (e.Equal place a b) s = o.binary equal_of a b d s
 rule_of_expression p d (e.NotEqual place a b) s = o.binary not_equal_of a b d s
 rule_of_expression p d (e.Compared place a op b) s = o.binary (o.comparison_operator op) a b d s
 rule_of_expression p d (e.Is place x name) s = o.is_named x name.name d s
-rule_of_expression p d (e.Sum place xs ops) s = o.sum xs ops d s
-rule_of_expression p d (e.Product place xs ops) s = o.product xs ops d s
+rule_of_expression p d (e.Sum place x rest) s = o.sum x rest d s
+rule_of_expression p d (e.Product place x rest) s = o.product x rest d s
 rule_of_expression p d (e.Composition place xs) s = o.composition xs d s
 rule_of_expression p d (e.Not place x) s = o.unary not_of x d s
 rule_of_expression p d (e.Negative place x) s = o.unary negate_of x d s
 rule_of_expression p d (e.Suffixed place x xs) s = o.suffixed p x xs d s
 rule_of_expression p d (e.Integer place n) s = literal (int n) s
 rule_of_expression p d (e.Text place bytes) s = literal (text bytes) s
-rule_of_expression p d (e.Interpolation place texts xs) s = interpolation texts xs d s
+rule_of_expression p d (e.Interpolation place first rest) s = interpolation rest d first s
 rule_of_expression p d (e.Location place path) s = literal (location_of_literal path) s
 rule_of_expression p d (e.Truth place b) s = literal (bool b) s
 rule_of_expression p d (e.It place) s = it s
 rule_of_expression p d (e.Visit place strategy subject cs ty) s = visiting strategy subject cs ty d s
 rule_of_expression p d (e.Fragment place f) s = fragment p f s
-rule_of_expression p d (e.Parenthesized place x) s = part x d s give
+rule_of_expression p d (e.Parenthesized place x) s = value_of x d s
 rule_of_expression p d (e.Reducer place start step cs) s = reducer p start step cs d s
-rule_of_expression p d (e.Map place keys values) s = map_by_entries keys values d s
+rule_of_expression p d (e.Map place written) s = map_by_entries written d s
 rule_of_expression p d (e.MapComprehension place key value cs) s = map_comprehension p key value cs d s
 rule_of_expression p d (e.Range place first second last) s = o.range first second last d s
 rule_of_expression p d (e.List place xs) s = list_by_elements xs d s
@@ -87,9 +85,9 @@ rule_of_expression p d (e.SetComprehension place xs cs) s = set_comprehension p 
 rule_of_expression p d (e.Tuple place xs) s = tuple_by_parts xs d s
 rule_of_expression p d (e.Call place name xs) s = call p name xs d s
 -- a splice and the name of a sort stand only among elements and arguments
-rule_of_expression p d (e.Splice place x) s = throw wrong_kind s
-rule_of_expression p d (e.TypeName place name) s = throw wrong_kind s
-rule_of_expression p d (e.StartSort place start name) s = throw wrong_kind s
+rule_of_expression p d (e.Splice place x) s = wrong_operand s
+rule_of_expression p d (e.TypeName place name) s = wrong_operand s
+rule_of_expression p d (e.StartSort place start name) s = wrong_operand s
 rule_of_expression p d (e.Loop place x) s = loop_value p (out-Stat x) d s
 rule_of_expression p d (e.Variable place name) s = variable name s
 

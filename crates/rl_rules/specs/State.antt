@@ -21,9 +21,9 @@ pub record State : Type 0 where
   pub scopes : List Variables
   -- the module that acts in the call that runs
   pub acting : ℕ
-  -- the values that each loop under way has appended, the innermost loop first
+  -- the values that each loop has appended whose body runs, the innermost first
   pub appended : List (List Plain)
-  -- the values that each comprehension under way has collected, the innermost first
+  -- the values that each comprehension has collected, and each other loop under way has appended, the innermost first
   pub collected : List (List Plain)
   -- the value of `it` of each reducer under way, the innermost first
   pub its : List Plain
@@ -113,23 +113,25 @@ abbrev pub add_on_top : List Plain → List (List Plain) → List (List Plain)
 add_on_top vs [] = []
 add_on_top vs (us ∷ piles) = (us ++ vs) ∷ piles
 
-abbrev pub begin_loop : State → State
-begin_loop s = record s { appended = [] ∷ s.appended }
-
-abbrev pub append : Plain → State → State
-append v s = record s { appended = add_on_top (v ∷ []) s.appended }
-
-abbrev pub end_loop : State → State
-end_loop s = record s { appended = below_top s.appended }
-
-abbrev pub begin_comprehension : State → State
-begin_comprehension s = record s { collected = [] ∷ s.collected }
+-- a comprehension or a loop begins
+abbrev pub begin_pile : State → State
+begin_pile s = record s { collected = [] ∷ s.collected }
 
 abbrev pub collect : List Plain → State → State
 collect vs s = record s { collected = add_on_top vs s.collected }
 
-abbrev pub end_comprehension : State → State
-end_comprehension s = record s { collected = below_top s.collected }
+abbrev pub end_pile : State → State
+end_pile s = record s { collected = below_top s.collected }
+
+-- the body of a loop begins: what stands in it appends to the loop's pile, and what stands in the conditions does not
+abbrev pub begin_body : State → State
+begin_body s = record s { appended = top_list s.collected ∷ s.appended; collected = below_top s.collected }
+
+abbrev pub append : Plain → State → State
+append v s = record s { appended = add_on_top (v ∷ []) s.appended }
+
+abbrev pub end_body : State → State
+end_body s = record s { appended = below_top s.appended; collected = top_list s.appended ∷ s.collected }
 
 abbrev pub begin_reducer : Plain → State → State
 begin_reducer v s = record s { its = v ∷ s.its }

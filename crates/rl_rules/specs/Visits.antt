@@ -38,5 +38,9 @@ visit_at p strategy cs ty v given d too_large s = throw x.too_large s
 abbrev pub visit_turn : Program → Strategy → List Case → Ty → Plain → List Answer → ℕ → State → Rule
 visit_turn p strategy cs ty v given d s = visit_at p strategy cs ty v given d (walk p.declarations strategy v given) s
 
+-- from no answers on
+abbrev pub visit_of : Strategy → List Case → Ty → ℕ → Plain → State → Rule
+visit_of strategy cs ty d v s = Use (turn (visit strategy cs ty v [])) d s Give
+
 abbrev pub visiting : Strategy → Exp → List Case → Ty → ℕ → State → Rule
-visiting strategy subject cs ty d s = part subject d s (λ v t. Use (turn (visit strategy cs ty v [])) d t Give)
+visiting strategy subject cs ty d s = part subject d s (visit_of strategy cs ty d)

@@ -1,7 +1,7 @@
 //! Small programs, evaluated.
 
 ghost use Rattle.rl_base.specs.Holds.{FileMap};
-ghost use Rattle.rl_rules.specs.Examples.{OneLine, FinallyAfterReturn, FinallyThrows, Counting, WithoutValue, OutOfRange, FallingBack, LeavingLoop, Handled, FinallyAtACut, NextAlternative, FalseCondition, ThreeElements, Reducing, TakenBack, FixedAtStart, Divided, FalseUnderMember, OtherAlternative, TestWithoutValue, SecondHandler, DeepestCall, Parsing, Visiting, SixStrategies};
+ghost use Rattle.rl_rules.specs.Examples.{OneLine, FinallyAfterReturn, FinallyThrows, Counting, WithoutValue, OutOfRange, FallingBack, LeavingLoop, Handled, FinallyAtACut, NextAlternative, FalseCondition, ThreeElements, Reducing, TakenBack, FixedAtStart, Divided, FalseUnderMember, OtherAlternative, TestWithoutValue, SecondHandler, DeepestCall, Parsing, Collecting, Exchanging, ChangingInside, JoinedConditions, UnderConditions, Solving, Extending, AppendingInConditions, AppendingInBody, Visiting, SixStrategies};
 
 /// A program of one line takes five units, and prints nothing with four.
 pub fn one_line()
@@ -116,6 +116,51 @@ pub fn deepest_call()
 /// A sort among the arguments is no value, but counts where a constructor is looked for.
 pub fn parsing()
     ensures { (files : FileMap) → Parsing files }
+{}
+
+/// A comprehension collects its elements for each binding.
+pub fn collecting()
+    ensures { (files : FileMap) → Collecting files }
+{}
+
+/// A tuple assignment writes its variables from the left, once the whole value is there.
+pub fn exchanging()
+    ensures { (files : FileMap) → Exchanging files }
+{}
+
+/// An assignment through a path changes the part at its end.
+pub fn changing_inside()
+    ensures { (files : FileMap) → ChangingInside files }
+{}
+
+/// `&&` is two conditions in a list of conditions, and an expression elsewhere.
+pub fn joined_conditions()
+    ensures { (files : FileMap) → JoinedConditions files }
+{}
+
+/// An alternative whose `when` does not hold leads to the next.
+pub fn under_conditions()
+    ensures { (files : FileMap) → UnderConditions files }
+{}
+
+/// `solve` goes on until its body leaves the variables as they were.
+pub fn solving()
+    ensures { (files : FileMap) → Solving files }
+{}
+
+/// A call in an extended module finds the alternatives of the module that acts.
+pub fn extending()
+    ensures { (files : FileMap) → Extending files }
+{}
+
+/// `append` in the conditions of a loop adds to the loop around.
+pub fn appending_in_conditions()
+    ensures { (files : FileMap) → AppendingInConditions files }
+{}
+
+/// `append` in the body of a loop adds to that loop.
+pub fn appending_in_body()
+    ensures { (files : FileMap) → AppendingInBody files }
 {}
 
 /// A visit costs a unit for each node, beside those of the cases that are taken.

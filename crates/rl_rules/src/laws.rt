@@ -2,40 +2,54 @@
 
 ghost use Rattle.std.specs.Prelude.{ℕ, ◌+◌, List};
 ghost use Rattle.rl_base.specs.Holds.{FileMap};
-ghost use Rattle.rl_rules.specs.Evaluation.{Evaluation, eval, printed};
+ghost use Rattle.rl_rules.specs.Evaluation.{Evaluation, Reading, eval_as, printed};
 ghost use Rattle.rl_rules.specs.Form.{Form};
-ghost use Rattle.rl_rules.specs.Laws.{IsByRules, Leaves, GoesOnFrom, More, AbandonedIsTakenBack, MissLeavesState, FinallyIsUsedOnce};
+ghost use Rattle.rl_rules.specs.Laws.{IsByRules, Leaves, GoesOnFrom, More, AbandonedIsTakenBack, MissLeavesState, MatchLeavesState, BareIsByForm, ConditionsAreByForm, EnumerationLeavesState, FinallyIsUsedOnce};
 ghost use Rattle.rl_rules.specs.Program.{Program};
+ghost use Rattle.rl_rules.specs.Rule.{Rule};
+ghost use Rattle.rl_rules.specs.Run.{derivation_as};
 ghost use Rattle.rl_rules.specs.State.{State};
 
 /// The evaluation of a form is that of its rule, after its unit was taken.
 pub fn evaluation_is_by_rules()
-    ensures { (p : Program) (files : FileMap) → IsByRules p files }
+    ensures { (reading : Reading) (p : Program) (files : FileMap) → IsByRules reading p files }
 {}
 
-/// Units never rise.
+/// Units never rise, in a form and in a whole run.
 pub fn units_never_rise()
-    ensures { (p : Program) (files : FileMap) (f : Form) (d : ℕ) (s : State) (n : ℕ) (t : List ℕ) → Leaves n (eval p files f d s n t) }
+    ensures forms { (reading : Reading) (p : Program) (files : FileMap) (f : Form) (d : ℕ) (s : State) (n : ℕ) (t : List ℕ) → Leaves n (eval_as reading p files f d s n t) }
+    ensures runs { (reading : Reading) (p : Program) (files : FileMap) (go : State → Rule) (n : ℕ) → Leaves n (derivation_as reading p files go n) }
 {}
 
-/// With more units a form that was done is done alike, and one that was cut goes on from what it printed.
+/// With more units a form, or a whole run, that was done is done alike, and one that was cut goes on from what it printed.
 pub fn more_units_go_on()
-    ensures { (p : Program) (files : FileMap) (k : ℕ) (f : Form) (d : ℕ) (s : State) (n : ℕ) (t : List ℕ) → More k (eval p files f d s n t) (eval p files f d s (n + k) t) }
+    ensures forms { (reading : Reading) (p : Program) (files : FileMap) (k : ℕ) (f : Form) (d : ℕ) (s : State) (n : ℕ) (t : List ℕ) → More k (eval_as reading p files f d s n t) (eval_as reading p files f d s (n + k) t) }
+    ensures runs { (reading : Reading) (p : Program) (files : FileMap) (k : ℕ) (go : State → Rule) (n : ℕ) → More k (derivation_as reading p files go n) (derivation_as reading p files go (n + k)) }
 {}
 
-/// What was printed is never taken back.
+/// What was printed is never taken back, and what a run prints with more units begins with what it prints with fewer.
 pub fn printed_stays_printed()
-    ensures { (p : Program) (files : FileMap) (f : Form) (d : ℕ) (s : State) (n : ℕ) (t : List ℕ) → GoesOnFrom t (printed (eval p files f d s n t)) }
+    ensures forms { (reading : Reading) (p : Program) (files : FileMap) (f : Form) (d : ℕ) (s : State) (n : ℕ) (t : List ℕ) → GoesOnFrom t (printed (eval_as reading p files f d s n t)) }
+    ensures runs { (reading : Reading) (p : Program) (files : FileMap) (k : ℕ) (go : State → Rule) (n : ℕ) → GoesOnFrom (printed (derivation_as reading p files go n)) (printed (derivation_as reading p files go (n + k))) }
 {}
 
 /// A member that is abandoned is taken back: what follows it begins in the state before it. Where no member is kept, the state
-/// is what it was before all of them.
+/// is what it was before all of them: so a list of conditions that begins with a match or an enumeration and does not hold leaves
+/// the state as its operand left it.
 pub fn abandoned_members_leave_the_state()
-    ensures each { (files : FileMap) (e : Evaluation) → AbandonedIsTakenBack files e }
-    ensures all { (files : FileMap) (e : Evaluation) → MissLeavesState files e }
+    ensures each { (reading : Reading) (files : FileMap) (e : Evaluation) → AbandonedIsTakenBack reading files e }
+    ensures all { (reading : Reading) (files : FileMap) (e : Evaluation) → MissLeavesState reading files e }
+    ensures matches { (reading : Reading) (p : Program) (files : FileMap) (e : Evaluation) → MatchLeavesState reading p files e }
+    ensures enumerations { (reading : Reading) (p : Program) (files : FileMap) (e : Evaluation) → EnumerationLeavesState reading p files e }
 {}
 
 /// Whatever the end before it, `finally` is used once, and its own end counts where it is no value.
 pub fn finally_is_used_once()
-    ensures { (p : Program) (files : FileMap) (e : Evaluation) → FinallyIsUsedOnce p files e }
+    ensures { (reading : Reading) (p : Program) (files : FileMap) (e : Evaluation) → FinallyIsUsedOnce reading p files e }
+{}
+
+/// Parentheses count for nothing, and `a && b` in a list of conditions is two conditions, however deep they nest.
+pub fn parentheses_count_for_nothing()
+    ensures parts { BareIsByForm }
+    ensures conditions { ConditionsAreByForm }
 {}

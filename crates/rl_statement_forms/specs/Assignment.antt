@@ -2,7 +2,6 @@
 use Rattle.std.specs.Prelude.{ℕ, ◌-◌, ◌==◌, if◌then◌else◌, List, [], length, ◌∷◌, Option, Some, None}
 use Rattle.std.specs.List.{filter_map}
 use Rattle.rl_base.specs.declared.place.Place.{Place}
-use Rattle.rl_syntax.specs.declared.expression.Exp.{Exp}
 use Rattle.rl_syntax.specs.declared.expression.Suffix.{Suffix}
 use Rattle.rl_syntax.specs.declared.expression.Suffix.TheVariants as x
 use Rattle.rl_syntax.specs.declared.operator.Assignment.{Assignment}
@@ -12,17 +11,18 @@ use Rattle.rl_syntax.specs.declared.statement.Stat.TheVariants as s
 use Rattle.rl_tokens.specs.declared.terminal.TheConstants.{OPEN_BRACKET, DOT, EQUALS, PLUS_EQUALS, MINUS_EQUALS, STAR_EQUALS, SLASH_EQUALS, AMPERSAND_EQUALS}
 use Rattle.rl_forms.specs.declared.form.Form.{Form}
 use Rattle.rl_forms.specs.declared.form.Form.TheVariants as f
-use Rattle.rl_forms.specs.Words.{given, put, word_at}
-use Rattle.rl_forms.specs.Names.{as_name, name_at}
-use Rattle.rl_forms.specs.Types.{type_at}
-use Rattle.rl_forms.specs.Expressions.{expression_at}
+use Rattle.rl_forms.specs.Part.{given, part_at}
+use Rattle.rl_forms.specs.Words.{put, word_at}
+use Rattle.rl_forms.specs.Names.{as_name}
+use Rattle.rl_forms.specs.Declarations.{as_type}
+use Rattle.rl_forms.specs.Expressions.{as_expression}
 use Rattle.rl_statement_forms.specs.RightSide.{last_right_side}
 
 -- T x = e;
 unfoldable pub declaration_of : Place → List Form → Option Stat
 declaration_of place parts =
-    given (type_at parts 0) (λ ty.
-    given (name_at parts 1) (λ name.
+    given (part_at as_type parts 0) (λ ty.
+    given (part_at as_name parts 1) (λ name.
     given (last_right_side parts) (λ value. Some (s.Declaration place ty name value))))
 
 -- <x, y> = e;
@@ -30,18 +30,10 @@ unfoldable pub tuple_assignment_of : Place → List Form → Option Stat
 tuple_assignment_of place parts =
     given (last_right_side parts) (λ value. Some (s.TupleAssignment place (filter_map as_name parts) value))
 
-abbrev pub subscript : Place → Option Exp → Option Suffix
-subscript place None = None
-subscript place (Some index) = Some (x.Subscript place index)
-
--- . and a name
-unfoldable pub field_step : Place → List Form → Option Suffix
-field_step place behind = given (name_at behind 0) (λ name. Some (x.Field place name))
-
 abbrev pub step_by : Place → ℕ → List Form → Option Suffix
 step_by place word behind =
-    if word == OPEN_BRACKET then subscript place (expression_at behind 0)
-    else (if word == DOT then field_step place behind else None)
+    if word == OPEN_BRACKET then given (part_at as_expression behind 0) (λ index. Some (x.Subscript place index))
+    else (if word == DOT then given (part_at as_name behind 0) (λ name. Some (x.Field place name)) else None)
 
 -- the step of a path that begins with a part: [ and an expression, or . and a name
 abbrev pub step : Form → List Form → Option Suffix
@@ -69,6 +61,6 @@ last_assignment parts = given (word_at parts (length parts - 2)) assignment
 -- x[i].f = e;
 unfoldable pub assignment_of : Place → List Form → Option Stat
 assignment_of place parts =
-    given (name_at parts 0) (λ target.
+    given (part_at as_name parts 0) (λ target.
     given (last_assignment parts) (λ sign.
     given (last_right_side parts) (λ value. Some (s.Assign place target (path_in parts) sign value))))

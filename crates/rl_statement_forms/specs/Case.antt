@@ -9,10 +9,11 @@ use Rattle.rl_syntax.specs.declared.statement.Handler.{Handler}
 use Rattle.rl_syntax.specs.declared.statement.Handler.TheVariants as h
 use Rattle.rl_tokens.specs.declared.terminal.TheConstants.{ARROW}
 use Rattle.rl_forms.specs.declared.form.Form.{Form}
-use Rattle.rl_forms.specs.Words.{given, has_word}
-use Rattle.rl_forms.specs.Patterns.{pattern_at}
-use Rattle.rl_forms.specs.Expressions.{expression_at, conditions_or_none}
-use Rattle.rl_forms.specs.Statements.{as_statement, statement_at}
+use Rattle.rl_forms.specs.Part.{given, part_at}
+use Rattle.rl_forms.specs.Words.{has_word}
+use Rattle.rl_forms.specs.Patterns.{as_pattern}
+use Rattle.rl_forms.specs.Expressions.{as_expression, conditions_or_none}
+use Rattle.rl_forms.specs.Statements.{as_statement}
 
 -- default: statements
 abbrev pub default_of : Place → List Form → Case
@@ -21,7 +22,7 @@ default_of place parts = c.Default place (filter_map as_statement parts)
 -- case p => e when conditions
 unfoldable pub replacement : Place → Pattern → List Form → Option Case
 replacement place pattern parts =
-    given (expression_at parts 3) (λ value. Some (c.Replacement place pattern value (conditions_or_none parts 5)))
+    given (part_at as_expression parts 3) (λ value. Some (c.Replacement place pattern value (conditions_or_none parts 5)))
 
 -- what the pattern leads to: a replacement, or statements
 abbrev pub pattern_case : Place → Pattern → List Form → Option Case
@@ -35,19 +36,12 @@ case_from place parts None = Some (default_of place parts)
 
 -- a case without a pattern is a default
 unfoldable pub case_of : Place → List Form → Option Case
-case_of place parts = case_from place parts (pattern_at parts 1)
-
--- catch: statement
-unfoldable pub any_handler_of : Place → List Form → Option Handler
-any_handler_of place parts = given (statement_at parts 2) (λ body. Some (h.Any place body))
-
--- catch p: statement
-unfoldable pub matching_handler : Place → Pattern → List Form → Option Handler
-matching_handler place pattern parts = given (statement_at parts 3) (λ body. Some (h.Matching place pattern body))
+case_of place parts = case_from place parts (part_at as_pattern parts 1)
 
 abbrev pub handler_from : Place → List Form → Option Pattern → Option Handler
-handler_from place parts (Some pattern) = matching_handler place pattern parts
-handler_from place parts None = any_handler_of place parts
+handler_from place parts (Some pattern) = given (part_at as_statement parts 3) (λ body. Some (h.Matching place pattern body))
+handler_from place parts None = given (part_at as_statement parts 2) (λ body. Some (h.Any place body))
 
+-- catch p: statement, or catch: statement
 unfoldable pub handler_of : Place → List Form → Option Handler
-handler_of place parts = handler_from place parts (pattern_at parts 1)
+handler_of place parts = handler_from place parts (part_at as_pattern parts 1)

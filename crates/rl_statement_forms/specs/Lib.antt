@@ -1,3 +1,4 @@
+-- What phrases of statements say.
 pub mod RightSide
 pub mod Assignment
 pub mod Case

@@ -6,7 +6,7 @@ use Rattle.rl_syntax.specs.declared.expression.Exp.TheVariants as e
 use Rattle.rl_syntax.specs.declared.statement.Stat.{Stat}
 use Rattle.rl_forms.specs.declared.form.Form.{Form}
 use Rattle.rl_forms.specs.declared.form.Form.TheVariants as f
-use Rattle.rl_forms.specs.Words.{or_else}
+use Rattle.rl_forms.specs.Part.{or_else}
 use Rattle.rl_forms.specs.Expressions.{as_expression}
 
 abbrev pub loop_value : Stat → Exp

@@ -3,10 +3,11 @@ use Rattle.std.specs.Prelude.{ℕ, ◌==◌, if◌then◌else◌, List, Option, 
 use Rattle.std.specs.Option.{option_map}
 use Rattle.rl_base.specs.declared.place.Place.{Place}
 use Rattle.rl_syntax.specs.declared.statement.Stat.{Stat}
-use Rattle.rl_syntax.specs.declared.rules.TheConstants.{STATEMENT, BLOCK, IF, SWITCH, LOOP, SOLVE, TRY, SIMPLE_STATEMENT, CASE, CATCH, FINALLY, RIGHT_SIDE}
+use Rattle.rl_phrase_table.specs.declared.rules.TheConstants.{STATEMENT, BLOCK, IF, SWITCH, LOOP, SOLVE, TRY, SIMPLE_STATEMENT, CASE, CATCH, FINALLY, RIGHT_SIDE}
 use Rattle.rl_forms.specs.declared.form.Form.{Form}
 use Rattle.rl_forms.specs.declared.form.Form.TheVariants as f
-use Rattle.rl_forms.specs.Expressions.{expression_at}
+use Rattle.rl_forms.specs.Part.{part_at}
+use Rattle.rl_forms.specs.Expressions.{as_expression}
 use Rattle.rl_statement_forms.specs.Control.{block_of, if_of, switch_of, loop_of, solve_of}
 use Rattle.rl_statement_forms.specs.Trying.{finally_of, try_of}
 use Rattle.rl_statement_forms.specs.Case.{case_of, handler_of}
@@ -25,7 +26,7 @@ statement_of rule place parts =
 
 -- e; on a right side
 unfoldable pub right_side_of : List Form → Option Form
-right_side_of parts = option_map f.Expression (expression_at parts 0)
+right_side_of parts = option_map f.Expression (part_at as_expression parts 0)
 
 -- what is no statement
 unfoldable pub other_form : ℕ → Place → List Form → Option Form

@@ -7,8 +7,8 @@ use Rattle.rl_syntax.specs.declared.statement.Stat.TheVariants as s
 use Rattle.rl_tokens.specs.declared.terminal.TheConstants.{FAIL, BREAK, CONTINUE, SEMICOLON, INSERT, APPEND, THROW, RETURN, LESS}
 use Rattle.rl_forms.specs.declared.form.Form.{Form}
 use Rattle.rl_forms.specs.declared.form.Form.TheVariants as f
-use Rattle.rl_forms.specs.Words.{given}
-use Rattle.rl_forms.specs.Expressions.{expression_at}
+use Rattle.rl_forms.specs.Part.{given, part_at}
+use Rattle.rl_forms.specs.Expressions.{as_expression}
 use Rattle.rl_statement_forms.specs.RightSide.{last_right_side}
 use Rattle.rl_statement_forms.specs.Assignment.{assignment_of, declaration_of, tuple_assignment_of}
 
@@ -29,7 +29,7 @@ effect place word value =
 
 -- insert e;, append e; or throw e;
 unfoldable pub effect_of : Place → ℕ → List Form → Option Stat
-effect_of place word parts = given (expression_at parts 1) (λ value. effect place word value)
+effect_of place word parts = given (part_at as_expression parts 1) (λ value. effect place word value)
 
 abbrev pub return_by : Place → Option Exp → Stat
 return_by place (Some value) = s.ReturnValue place value
@@ -51,7 +51,7 @@ word_statement_of place word parts = word_statement_from (bare place word) place
 
 -- e;
 unfoldable pub expression_statement_of : Place → List Form → Option Stat
-expression_statement_of place parts = given (expression_at parts 0) (λ value. Some (s.Expression place value))
+expression_statement_of place parts = given (part_at as_expression parts 0) (λ value. Some (s.Expression place value))
 
 abbrev pub simple_from : Place → List Form → Option Form → Option Stat
 simple_from place parts (Some (f.Word at word)) = word_statement_of place word parts

@@ -1,11 +1,11 @@
 //! Right sides: an expression, or a loop for the list of the values that it appends.
 
 ghost use Rattle.std.specs.Prelude.{◌≡◌, IfOk};
-ghost use Rattle.rl_statement_forms.specs.RightSide.{as_loop, as_right_side, last_right_side, loop_value};
+ghost use Rattle.rl_forms.specs.Part.{Gives};
+ghost use Rattle.rl_statement_forms.specs.RightSide.{as_right_side, last_right_side, loop_value};
 
 use rl_base::Shared;
-use rl_forms::Form;
-use rl_forms::expressions::as_expression;
+use rl_forms::{Form, FormError, Part};
 use rl_syntax::{Exp, Stat};
 use std::alloc::{AllocError, Global};
 
@@ -17,35 +17,23 @@ fn loop_value(alloc: Global, statement: &Shared<Stat>) -> Result<Shared<Exp>, Al
     Shared::new(alloc, Exp::Loop { place, statement })
 }
 
-fn as_loop(alloc: Global, part: &Form) -> Result<Option<Shared<Exp>>, AllocError>
-    ensures { IfOk result (λ it. it ≡ as_loop part.now) }
+// The part as a right side.
+fn right_side(alloc: Global, part: &Form) -> Result<Shared<Exp>, FormError>
+    ensures { Gives (as_right_side part.now) result }
 {
     match part {
-        Form::Statement(statement) => Ok(Some(loop_value(alloc, statement)?)),
-        _ => Ok(None),
-    }
-}
-
-// The part as a right side.
-fn as_right_side(alloc: Global, part: &Form) -> Result<Option<Shared<Exp>>, AllocError>
-    ensures { IfOk result (λ it. it ≡ as_right_side part.now) }
-{
-    match as_loop(alloc, part)? {
-        Some(value) => Ok(Some(value)),
-        None => as_expression(alloc, part),
+        Form::Statement(statement) => Ok(loop_value(alloc, statement)?),
+        _ => Part::from_form(alloc, part),
     }
 }
 
 /// The last part, which is a right side.
 #[tactic(auto, unfolding(crate::specs::RightSide::last_right_side))]
-pub(crate) fn last_right_side(
-    alloc: Global,
-    parts: &[Form],
-) -> Result<Option<Shared<Exp>>, AllocError>
-    ensures { IfOk result (λ it. it ≡ last_right_side parts.now) }
+pub(crate) fn last_right_side(alloc: Global, parts: &[Form]) -> Result<Shared<Exp>, FormError>
+    ensures { Gives (last_right_side parts.now) result }
 {
     match parts.last() {
-        Some(part) => as_right_side(alloc, part),
-        None => Ok(None),
+        Some(part) => right_side(alloc, part),
+        None => Err(FormError::Missing),
     }
 }

@@ -1,11 +1,11 @@
 //! The variables of a running program, with marks to which the program can go back.
 #![tactic(auto)]
 
-pub mod calls;
+mod calls;
 mod journal;
 mod scopes;
 mod slots;
-pub mod store;
+mod store;
 
 pub use calls::{Call, make_call, replay};
 pub use store::Store;

@@ -11,7 +11,7 @@ use std::alloc::{AllocError, Global};
 use std::collections::BTreeMap;
 use std::marker::Model;
 
-/// The room of one variable.
+// The room of one variable.
 #[derive(Drop)]
 struct Slot {
     /// None where the variable has no value.

@@ -1,3 +1,5 @@
+//! The store beside one that copies its scopes.
+
 use super::*;
 use rl_value::{Value, int};
 use std::test::Fail;
@@ -60,10 +62,10 @@ fn a_release_keeps_what_the_older_mark_noted(rt: HostRuntime) -> Result<(), Fail
     Ok(())
 }
 
-/// A scope with eight variables.
+// A scope with eight variables.
 type Copied = [Option<i128>; 8];
 
-/// A store that copies its scopes at each mark.
+// A store that copies its scopes at each mark.
 #[derive(Drop)]
 struct Copying {
     scopes: Vec<Copied>,
@@ -105,7 +107,7 @@ impl Copying {
     }
 }
 
-/// Makes one call on both.
+// Makes one call on both.
 fn turn(store: &mut Store, copying: &mut Copying, draw: u64) -> Result<(), Fail> {
     let variable = (draw / 8 % 8) as usize;
     let value = i128::from(draw / 64 % 1000);

@@ -1,3 +1,4 @@
+-- What the library functions over texts give.
 pub mod Joining
 pub mod Numbers
 pub mod Parts

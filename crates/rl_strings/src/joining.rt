@@ -1,3 +1,5 @@
+//! intercalate.
+
 ghost use Rattle.std.specs.Prelude.{◌≡◌, ◌∷◌, ◌++◌, IfOk, OnOk, map};
 ghost use Rattle.std.specs.List.{flat_map};
 ghost use Rattle.std.specs.String.{string_bytes};
@@ -47,7 +49,7 @@ fn joined_from(
     Ok(out)
 }
 
-/// Appends each of the shown texts behind the text between.
+// Appends each of the shown texts behind the text between.
 fn append_all(out: &mut String, between: &str, items: &[Value]) -> Result<(), AllocError>
     ensures { OnOk result (string_bytes out.new ≡ string_bytes out.old ++ flat_map (λ t. between.now ++ shown_of t) items.now) }
 {

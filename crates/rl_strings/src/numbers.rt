@@ -1,3 +1,5 @@
+//! toInt.
+
 ghost use Rattle.std.specs.Prelude.{◌≡◌};
 ghost use Rattle.rl_exception.specs.Answer.{Answers};
 ghost use Rattle.rl_strings.specs.Numbers.{number_in, to_int_of};

@@ -1,3 +1,5 @@
+//! substring.
+
 ghost use Rattle.std.specs.Prelude.{◌≡◌, ◌≤◌, ◌-◌, IfOk, length, take, drop, encode_utf8_all};
 ghost use Rattle.std.specs.Str.{chars};
 ghost use Rattle.std.specs.String.{string_bytes};
@@ -39,7 +41,7 @@ fn character_count(text: &str) -> usize
     text.chars().count()
 }
 
-/// The place that `i` is, from `low` to `high`.
+// The place that `i` is, from `low` to `high`.
 fn place_from(low: usize, high: usize, i: i128) -> Option<usize>
     ensures { result ≡ place_from low high i }
 {

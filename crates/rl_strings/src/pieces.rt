@@ -1,3 +1,5 @@
+//! split and replaceAll.
+
 ghost use Rattle.std.specs.Prelude.{◌≡◌, ◌<◌, [], ◌++◌, ◌∷◌, IfOk, map, length};
 ghost use Rattle.std.specs.String.{string_bytes};
 ghost use Rattle.rl_value.specs.Plain.{text};
@@ -33,7 +35,7 @@ fn split_by(alloc: Global, separator: &str, whole: &str) -> Result<Value, OpEnd>
     }
 }
 
-/// `IllegalArgument("")`
+// `IllegalArgument("")`
 fn empty_argument(alloc: Global) -> OpEnd
     ensures { Ends (throwing (illegal_argument (text []))) result }
 {

@@ -1,3 +1,5 @@
+//! contains, startsWith and endsWith.
+
 ghost use Rattle.std.specs.Prelude.{◌≡◌, nat_eq, is_some};
 ghost use Rattle.std.specs.List.{starts_with, ends_with};
 ghost use Rattle.rl_exception.specs.Answer.{Answers};

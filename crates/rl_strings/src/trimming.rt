@@ -1,3 +1,5 @@
+//! trim.
+
 ghost use Rattle.std.specs.Prelude.{◌≡◌};
 ghost use Rattle.std.specs.List.{prefix_len, suffix_len};
 ghost use Rattle.rl_exception.specs.Answer.{Answers};

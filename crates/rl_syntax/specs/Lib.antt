@@ -1,7 +1,8 @@
+-- Where forms stand, where faults do, and what patterns set.
 pub mod Declaration
-pub mod Table
-pub mod Ty
-pub mod Bound
-pub mod Pattern
-pub mod Expression
 pub mod Statement
+pub mod Expression
+pub mod Pattern
+pub mod Ty
+pub mod Fault
+pub mod Bound

@@ -1,8 +1,9 @@
+//! The variables of small patterns.
+
 use crate::bound::bound_variables;
 use crate::identifier::PatternVariable;
 use crate::pattern::Pattern;
-use rl_base::{Place, Shared};
-use rl_grammar::Name;
+use rl_base::{Name, Place, Shared};
 use std::alloc::{AllocError, Global};
 use std::test::Fail;
 

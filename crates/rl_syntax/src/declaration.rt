@@ -1,6 +1,6 @@
 //! What stands at the top of a module.
 
-ghost use Rattle.std.specs.Prelude.{◌≡◌};
+ghost use Rattle.std.specs.Prelude.{◌≡◌, IfOk};
 ghost use Rattle.rl_syntax.specs.Declaration.{place_of_declaration};
 
 use crate::expression::Exp;
@@ -8,8 +8,9 @@ use crate::identifier::Identifier;
 use crate::pattern::Pattern;
 use crate::statement::Stat;
 use crate::ty::{Field, Ty};
-use rl_base::{Place, Row, Shared};
-use rl_grammar::{Name, SyntaxDef};
+use rl_base::{Name, Place, Row, Shared};
+use rl_productions::SyntaxDef;
+use std::alloc::AllocError;
 
 /// A declaration. Its place is that of its first token.
 #[derive(Drop)]
@@ -59,6 +60,46 @@ impl Decl {
             Decl::Function(function) => function.get().place,
         }
     }
+
+    /// One more share of the declaration.
+    pub fn share(&self) -> Result<Decl, AllocError>
+        ensures { IfOk result (λ it. it ≡ self.now) }
+    {
+        match self {
+            Decl::Import { place, module } => Ok(Decl::Import {
+                place: *place,
+                module: module.share()?,
+            }),
+            Decl::Extend { place, module } => Ok(Decl::Extend {
+                place: *place,
+                module: module.share()?,
+            }),
+            Decl::Syntax(definition) => Ok(Decl::Syntax(definition.share()?)),
+            Decl::Data {
+                place,
+                name,
+                variants,
+            } => Ok(Decl::Data {
+                place: *place,
+                name: name.share()?,
+                variants: variants.share()?,
+            }),
+            Decl::Global {
+                place,
+                private,
+                ty,
+                name,
+                value,
+            } => Ok(Decl::Global {
+                place: *place,
+                private: *private,
+                ty: ty.share()?,
+                name: name.share()?,
+                value: value.share()?,
+            }),
+            Decl::Function(function) => Ok(Decl::Function(function.share()?)),
+        }
+    }
 }
 
 /// `name(T field, ..)`: a constructor of a data type.
@@ -66,6 +107,19 @@ impl Decl {
 pub struct Variant {
     pub name: Identifier,
     pub fields: Row<Field>,
+}
+
+impl Variant {
+    /// One more share of the constructor.
+    pub fn share(&self) -> Result<Variant, AllocError>
+        ensures { IfOk result (λ it. it ≡ self.now) }
+    {
+        let name = self.name.share()?;
+        Ok(Variant {
+            name,
+            fields: self.fields.share()?,
+        })
+    }
 }
 
 /// An alternative of a function.

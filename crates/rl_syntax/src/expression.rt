@@ -1,6 +1,6 @@
 //! Expressions.
 
-ghost use Rattle.std.specs.Prelude.{◌≡◌};
+ghost use Rattle.std.specs.Prelude.{◌≡◌, IfOk};
 ghost use Rattle.rl_syntax.specs.Expression.{place_of_expression};
 
 use crate::fragment::Concrete;
@@ -9,8 +9,8 @@ use crate::operator::{Comparison, ProductOperator, Strategy, SumOperator};
 use crate::pattern::Pattern;
 use crate::statement::{Case, Stat};
 use crate::ty::Ty;
-use rl_base::{Place, Row, Shared};
-use rl_grammar::Name;
+use rl_base::{Name, Place, Row, Shared};
+use std::alloc::AllocError;
 
 /// An expression. Its place is that of its first token.
 #[cycle(form)]
@@ -97,16 +97,16 @@ pub enum Exp {
     /// `a + b - c ..`, from the left
     Sum {
         place: Place,
-        parts: Row<Shared<Exp>>,
-        /// One less than there are parts: each stands before the part behind it.
-        operators: Row<SumOperator>,
+        first: Shared<Exp>,
+        /// Each operator with the part behind it.
+        rest: Row<(SumOperator, Shared<Exp>)>,
     },
     /// `a * b / c ..`, from the left
     Product {
         place: Place,
-        parts: Row<Shared<Exp>>,
-        /// One less than there are parts: each stands before the part behind it.
-        operators: Row<ProductOperator>,
+        first: Shared<Exp>,
+        /// Each operator with the part behind it.
+        rest: Row<(ProductOperator, Shared<Exp>)>,
     },
     /// `a o b o ..`, from the left
     Composition {
@@ -142,9 +142,10 @@ pub enum Exp {
     /// `"text <e> text <e> text"`
     Interpolation {
         place: Place,
-        /// One more than there are values: the text before each of them, and that behind the last.
-        texts: Row<Name>,
-        values: Row<Shared<Exp>>,
+        /// The text before the first value.
+        first: Name,
+        /// Each value with the text behind it.
+        rest: Row<(Shared<Exp>, Name)>,
     },
     /// `|cwd:///path|`, or `|unknown:///|` where there is no path
     Location {
@@ -189,9 +190,8 @@ pub enum Exp {
     /// `(k: v, ..)` or `()`
     Map {
         place: Place,
-        keys: Row<Shared<Exp>>,
-        /// As many as there are keys.
-        values: Row<Shared<Exp>>,
+        /// Each key with its value.
+        entries: Row<(Shared<Exp>, Shared<Exp>)>,
     },
     /// `(k: v | conditions)`
     MapComprehension {
@@ -349,4 +349,42 @@ pub enum Suffix {
     ReflexiveClosure {
         place: Place,
     },
+}
+
+fn share_bound(bound: &Option<Shared<Exp>>) -> Result<Option<Shared<Exp>>, AllocError>
+    ensures { IfOk result (λ it. it ≡ bound.now) }
+{
+    match bound {
+        None => Ok(None),
+        Some(bound) => Ok(Some(bound.share()?)),
+    }
+}
+
+impl Suffix {
+    /// One more share of the suffix.
+    pub fn share(&self) -> Result<Suffix, AllocError>
+        ensures { IfOk result (λ it. it ≡ self.now) }
+    {
+        match self {
+            Suffix::Subscript { place, index } => Ok(Suffix::Subscript {
+                place: *place,
+                index: index.share()?,
+            }),
+            Suffix::Slice { place, from, to } => {
+                let from = share_bound(from)?;
+                let to = share_bound(to)?;
+                Ok(Suffix::Slice {
+                    place: *place,
+                    from,
+                    to,
+                })
+            }
+            Suffix::Field { place, name } => Ok(Suffix::Field {
+                place: *place,
+                name: name.share()?,
+            }),
+            Suffix::TransitiveClosure { place } => Ok(Suffix::TransitiveClosure { place: *place }),
+            Suffix::ReflexiveClosure { place } => Ok(Suffix::ReflexiveClosure { place: *place }),
+        }
+    }
 }

@@ -1,8 +1,7 @@
 //! Fragments of concrete syntax.
 
 use crate::identifier::PatternVariable;
-use rl_base::{Place, Row};
-use rl_grammar::Name;
+use rl_base::{Name, Place, Row};
 
 /// A text in the syntax of a sort, with holes for trees: ``(E) `<E a> + 1` ``.
 #[derive(Drop)]

@@ -1,8 +1,7 @@
 //! Modules.
 
 use crate::declaration::Decl;
-use rl_base::{Place, Row};
-use rl_grammar::Name;
+use rl_base::{Name, Place, Row};
 
 /// `module M` and its declarations.
 #[derive(Drop)]
@@ -14,4 +13,13 @@ pub struct Module {
     /// Its name, with `::` between the parts.
     pub name: Name,
     pub declarations: Row<Decl>,
+}
+
+/// The modules of a program.
+#[derive(Drop)]
+pub struct Modules {
+    /// The modules by number: each has the number of modules that were met before it.
+    pub list: Row<Module>,
+    /// Their numbers, in the order in which loading finished them: each behind those that it imports.
+    pub finished: Row<u32>,
 }

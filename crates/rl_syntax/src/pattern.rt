@@ -1,13 +1,13 @@
 //! Patterns.
 
-ghost use Rattle.std.specs.Prelude.{◌≡◌};
+ghost use Rattle.std.specs.Prelude.{◌≡◌, IfOk};
 ghost use Rattle.rl_syntax.specs.Pattern.{place_of_pattern};
 
 use crate::fragment::Concrete;
 use crate::identifier::{Identifier, PatternVariable};
 use crate::ty::Ty;
-use rl_base::{Place, Row, Shared};
-use rl_grammar::Name;
+use rl_base::{Name, Place, Row, Shared};
+use std::alloc::AllocError;
 
 /// A pattern. Its place is that of its first token.
 #[cycle(pattern)]
@@ -152,4 +152,35 @@ pub enum PatternElement {
     },
     /// One element.
     Single(Shared<Pattern>),
+}
+
+impl PatternElement {
+    /// One more share of the element.
+    pub fn share(&self) -> Result<PatternElement, AllocError>
+        ensures { IfOk result (λ it. it ≡ self.now) }
+    {
+        match self {
+            PatternElement::AnyRest { place } => Ok(PatternElement::AnyRest { place: *place }),
+            PatternElement::TypedRest {
+                place,
+                ty,
+                variable,
+            } => {
+                let variable = variable.share()?;
+                Ok(PatternElement::TypedRest {
+                    place: *place,
+                    ty: ty.share()?,
+                    variable,
+                })
+            }
+            PatternElement::Rest { place, variable } => {
+                let variable = variable.share()?;
+                Ok(PatternElement::Rest {
+                    place: *place,
+                    variable,
+                })
+            }
+            PatternElement::Single(pattern) => Ok(PatternElement::Single(pattern.share()?)),
+        }
+    }
 }

@@ -1,11 +1,11 @@
 //! Types as they are written.
 
-ghost use Rattle.std.specs.Prelude.{◌≡◌};
+ghost use Rattle.std.specs.Prelude.{◌≡◌, IfOk};
 ghost use Rattle.rl_syntax.specs.Ty.{place_of_ty};
 
 use crate::identifier::Identifier;
-use rl_base::{Place, Row, Shared};
-use rl_grammar::Name;
+use rl_base::{Name, Place, Row, Shared};
+use std::alloc::AllocError;
 
 /// A type. Its place is that of its first token; a type that was not written has the place of what it is the type of.
 #[cycle(ty)]
@@ -94,6 +94,49 @@ impl Ty {
             | Ty::Named { place, .. } => *place,
         }
     }
+
+    /// One more share of the type.
+    pub fn share(&self) -> Result<Ty, AllocError>
+        ensures { IfOk result (λ it. it ≡ self.now) }
+    {
+        match self {
+            Ty::List { place, element } => Ok(Ty::List {
+                place: *place,
+                element: element.share()?,
+            }),
+            Ty::Set { place, element } => Ok(Ty::Set {
+                place: *place,
+                element: element.share()?,
+            }),
+            Ty::Map { place, key, value } => Ok(Ty::Map {
+                place: *place,
+                key: key.share()?,
+                value: value.share()?,
+            }),
+            Ty::Tuple { place, fields } => Ok(Ty::Tuple {
+                place: *place,
+                fields: fields.share()?,
+            }),
+            Ty::Relation { place, fields } => Ok(Ty::Relation {
+                place: *place,
+                fields: fields.share()?,
+            }),
+            Ty::ListRelation { place, fields } => Ok(Ty::ListRelation {
+                place: *place,
+                fields: fields.share()?,
+            }),
+            Ty::Bool { place } => Ok(Ty::Bool { place: *place }),
+            Ty::Int { place } => Ok(Ty::Int { place: *place }),
+            Ty::Str { place } => Ok(Ty::Str { place: *place }),
+            Ty::Loc { place } => Ok(Ty::Loc { place: *place }),
+            Ty::Void { place } => Ok(Ty::Void { place: *place }),
+            Ty::Value { place } => Ok(Ty::Value { place: *place }),
+            Ty::Named { place, name } => Ok(Ty::Named {
+                place: *place,
+                name: name.share()?,
+            }),
+        }
+    }
 }
 
 /// `T name` or `T`: a field of a constructor, or a part of a tuple type, where a name has no meaning.
@@ -102,4 +145,26 @@ impl Ty {
 pub struct Field {
     pub ty: Shared<Ty>,
     pub name: Option<Identifier>,
+}
+
+fn share_name(name: &Option<Identifier>) -> Result<Option<Identifier>, AllocError>
+    ensures { IfOk result (λ it. it ≡ name.now) }
+{
+    match name {
+        None => Ok(None),
+        Some(name) => Ok(Some(name.share()?)),
+    }
+}
+
+impl Field {
+    /// One more share of the field.
+    pub fn share(&self) -> Result<Field, AllocError>
+        ensures { IfOk result (λ it. it ≡ self.now) }
+    {
+        let name = share_name(&self.name)?;
+        Ok(Field {
+            ty: self.ty.share()?,
+            name,
+        })
+    }
 }

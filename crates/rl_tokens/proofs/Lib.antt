@@ -1,4 +1,4 @@
-pub mod EntryLemmas
+pub mod ListLemmas
 pub mod NumberLemmas
 pub mod PlacedLemmas
 pub mod QuotedLemmas

@@ -1,10 +1,11 @@
 -- Faults of a text, and the leftmost of them.
-use Rattle.std.specs.Prelude.{◌≡◌, List, [], ◌∷◌, Option, Some, None, if◌then◌else◌, nat_le}
+use Rattle.std.specs.Prelude.{◌≡◌, ℕ, List, [], ◌∷◌, Option, Some, None, if◌then◌else◌, nat_le}
+use Rattle.rl_tokens.specs.declared.fault.Flaw.{Flaw}
 use Rattle.rl_tokens.specs.declared.fault.Flaw.TheVariants as flaw
 use Rattle.rl_tokens.specs.declared.fault.Fault.{Fault}
 use Rattle.rl_tokens.specs.declared.fault.Faults.{Faults}
 use Rattle.rl_tokens.specs.declared.fault.TokenFault.{TokenFault}
-use Rattle.rl_tokens.specs.declared.fault.TokenFault.TheVariants.{BadCharacter, OpenString, OpenComment, WideNumber, BadEscape, OutOfMemory}
+use Rattle.rl_tokens.specs.declared.fault.TokenFault.TheVariants.{BadCharacter, OpenString, OpenComment, WideNumber, BadEscape}
 
 -- the one further left
 abbrev pub sooner : Option Fault → Fault → Option Fault
@@ -24,10 +25,12 @@ abbrev pub leftmost : List Fault → Option Fault
 leftmost faults = leftmost_from None faults
 
 -- the fault as the caller is told it
-abbrev pub IsTold : Fault → TokenFault → Type 0
-IsTold fault (BadCharacter offset) = fault ≡ record { flaw = flaw.BadCharacter; offset = offset }
-IsTold fault (OpenString offset) = fault ≡ record { flaw = flaw.OpenString; offset = offset }
-IsTold fault (OpenComment offset) = fault ≡ record { flaw = flaw.OpenComment; offset = offset }
-IsTold fault (WideNumber offset) = fault ≡ record { flaw = flaw.WideNumber; offset = offset }
-IsTold fault (BadEscape offset) = fault ≡ record { flaw = flaw.BadEscape; offset = offset }
-IsTold fault OutOfMemory = ⊥
+abbrev pub told_as : Flaw → ℕ → TokenFault
+told_as flaw.BadCharacter offset = BadCharacter offset
+told_as flaw.OpenString offset = OpenString offset
+told_as flaw.OpenComment offset = OpenComment offset
+told_as flaw.WideNumber offset = WideNumber offset
+told_as flaw.BadEscape offset = BadEscape offset
+
+abbrev pub told : Fault → TokenFault
+told fault = told_as fault.flaw fault.offset

@@ -1,13 +1,14 @@
-pub mod Entry
-pub mod Fault
-pub mod Hole
-pub mod Lexeme
-pub mod Number
+-- What `tokens` means: the tokens of a text, its faults, and the terminals.
+pub mod Token
 pub mod Placed
-pub mod Quoted
+pub mod Fault
 pub mod Scan
+pub mod Lexeme
 pub mod Set
 pub mod Terminal
-pub mod Token
 pub mod Word
-pub mod Told
+pub mod Number
+pub mod Quoted
+pub mod Hole
+-- Inside: how the list of tokens lies in memory.
+pub mod List

@@ -1,7 +1,8 @@
 -- The tokens and the faults of a text.
 use Rattle.std.specs.Prelude.{◌≡◌, ℕ, zero, suc, ◌+◌, ◌-◌, Bool, false, List, [], ◌∷◌, ◌++◌, length, take, slice_get, encode_utf8_all, Option, Some, None, Result, Ok, Err}
+use Rattle.std.specs.Option.{option_map}
 use Rattle.rl_tokens.specs.Token.{Token}
-use Rattle.rl_tokens.specs.Fault.{leftmost, IsTold}
+use Rattle.rl_tokens.specs.Fault.{leftmost, told}
 use Rattle.rl_tokens.specs.Lexeme.{front, grammar_behind}
 use Rattle.rl_tokens.specs.declared.fault.Fault.{Fault}
 use Rattle.rl_tokens.specs.declared.fault.Flaw.TheVariants as flaw
@@ -68,8 +69,8 @@ scan zero grammar opens offset (c ∷ text) =
 unfoldable pub tokens_in : List ℕ → Scan
 tokens_in text = scan 0 false [] 0 text
 
--- the answer is the list of the tokens, where there is no fault, and the leftmost fault otherwise
+-- the answer is the list of the tokens where there is no fault, and otherwise the leftmost fault
 abbrev pub Answers : Scan → Result (List Token) TokenFault → Type 0
 Answers found (Ok tokens) = (leftmost found.faults ≡ None) × (tokens ≡ found.tokens)
 Answers found (Err OutOfMemory) = Unit {0}
-Answers found (Err fault) = (first : Fault) × (leftmost found.faults ≡ Some first) × IsTold first fault
+Answers found (Err fault) = option_map told (leftmost found.faults) ≡ Some fault

@@ -70,10 +70,10 @@ impl Faults {
 
 impl Fault {
     ghost use Rattle.std.specs.Prelude.{◌≡◌};
-    ghost use Rattle.rl_tokens.specs.Fault.{IsTold};
+    ghost use Rattle.rl_tokens.specs.Fault.{told};
 
     pub fn told(self) -> TokenFault
-        ensures { IsTold self result }
+        ensures { result ≡ told self }
     {
         let offset = self.offset;
         match self.flaw {

@@ -1,10 +1,10 @@
 //! The tokens of a text.
 #![tactic(auto)]
 
-mod entry;
 mod fault;
 mod hole;
 mod lexeme;
+mod list;
 mod number;
 mod quoted;
 mod scan;
@@ -12,8 +12,8 @@ mod set;
 pub mod terminal;
 mod word;
 
-pub use entry::Tokens;
 pub use fault::TokenFault;
+pub use list::Tokens;
 pub use scan::tokens;
 
 #[cfg(test)]

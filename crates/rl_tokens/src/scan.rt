@@ -5,9 +5,9 @@ ghost use Rattle.rl_tokens.specs.Fault.{Notes, leftmost};
 ghost use Rattle.rl_tokens.specs.Placed.{IsPlaced};
 ghost use Rattle.rl_tokens.specs.Scan as spec;
 
-use crate::entry::Tokens;
 use crate::fault::{Faults, Flaw, TokenFault};
 use crate::lexeme::{Lexeme, Nest, Open, front, grammar_behind};
+use crate::list::Tokens;
 use crate::terminal::END;
 use rl_base::Chars;
 use std::alloc::{AllocError, Global};

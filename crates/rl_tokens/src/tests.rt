@@ -1,3 +1,5 @@
+//! Tokens of small texts.
+
 use crate::terminal::*;
 use crate::{TokenFault, tokens};
 use rl_base::chars;

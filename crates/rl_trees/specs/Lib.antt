@@ -1,5 +1,6 @@
-pub mod Counts
-pub mod Order
+-- What the library functions over syntax trees give.
 pub mod Rows
-pub mod Standing
+pub mod Order
 pub mod Walk
+pub mod Standing
+pub mod Counts

@@ -1,3 +1,5 @@
+//! How many characters the text of a syntax tree has.
+
 ghost use Rattle.std.specs.Prelude.{◌≡◌, ◌≤◌, ◌^◌, length};
 ghost use Rattle.std.specs.Str.{chars};
 ghost use Rattle.rl_value.specs.Plain.{plain_size, plains_size, plains_of};

@@ -1,3 +1,5 @@
+//! Spans by their offset, longer ones first, and then as a walk meets them.
+
 ghost use Rattle.std.specs.Prelude.{◌≡◌, IfOk, OnOk, map};
 ghost use Rattle.std.specs.BTreeMap.{insert_entry};
 ghost use Rattle.rl_trees.specs.Order.{in_order};

@@ -1,3 +1,5 @@
+//! spans and unparse.
+
 ghost use Rattle.std.specs.Prelude.{◌≡◌, IfOk, map, reverse};
 ghost use Rattle.std.specs.Option.{option_copied};
 ghost use Rattle.rl_value.specs.Built.{Builds};
@@ -53,7 +55,7 @@ fn all_rows(alloc: Global, whole: &Value, sort: &str) -> Result<Vec<Value>, Buil
     rows(alloc, &ordered)
 }
 
-/// The trees of a sort as a walk from the left meets them.
+// The trees of a sort as a walk from the left meets them.
 fn walked(alloc: Global, whole: &Value, sort: &str) -> Result<Vec<Span>, AllocError>
     ensures { IfOk result (λ spans. spans.items ≡ walk sort.now 0 whole.now) }
 {

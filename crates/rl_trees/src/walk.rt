@@ -1,3 +1,5 @@
+//! The trees of a sort in a syntax tree, as a walk from the left meets them: a tree before its parts.
+
 ghost use Rattle.std.specs.Prelude.{◌≡◌, ◌≤◌, ◌+◌, ◌++◌, OnOk, IfOk, reverse};
 ghost use Rattle.rl_value.specs.Plain.{plains_of, tree};
 ghost use Rattle.rl_value.specs.View.{shape_of};

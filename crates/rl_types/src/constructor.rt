@@ -2,8 +2,7 @@
 
 ghost use Rattle.std.specs.Prelude.{◌≡◌, IfOk};
 
-use rl_base::Row;
-use rl_grammar::Name;
+use rl_base::{Name, Row};
 use rl_syntax::Field;
 use std::alloc::AllocError;
 

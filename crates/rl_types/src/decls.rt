@@ -9,7 +9,7 @@ ghost use Rattle.rl_types.specs.View.{constructor_of, declarations_in, IsIndexed
 
 use crate::constructor::Constructor;
 use crate::gathering::{by_name, constructors, data_types, set_of, sorts};
-use rl_grammar::Name;
+use rl_base::Name;
 use rl_syntax::Module;
 use std::alloc::{AllocError, Global};
 use std::collections::{BTreeMap, BTreeSet};

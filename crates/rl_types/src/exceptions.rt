@@ -6,8 +6,7 @@ ghost use Rattle.rl_types.specs.View.{field_of, constructor_of};
 ghost use Rattle.rl_types.specs.Exceptions.{basic_type, basic_field, exception_of};
 
 use crate::constructor::Constructor;
-use rl_base::{Place, Row, Shared};
-use rl_grammar::Name;
+use rl_base::{Name, Place, Row, Shared};
 use rl_syntax::{Field, Ty};
 use std::alloc::{AllocError, Global};
 
@@ -107,7 +106,7 @@ pub(crate) const EXCEPTIONS: [Exception; 18] = [
     },
 ];
 
-/// The place of what no module writes.
+// The place of what no module writes.
 const NOWHERE: Place = Place {
     module: 0,
     offset: 0,

@@ -12,7 +12,7 @@ ghost use Rattle.rl_types.specs.View.{constructor_of};
 
 use crate::constructor::Constructor;
 use crate::exceptions::{EXCEPTION, EXCEPTIONS, add_exceptions};
-use rl_grammar::Name;
+use rl_base::Name;
 use rl_syntax::{Decl, Module, Variant};
 use std::alloc::{AllocError, Global};
 use std::collections::{BTreeMap, BTreeSet};

@@ -2,13 +2,13 @@
 
 ghost use Rattle.std.specs.Prelude.{◌≡◌, IfOk, map, length};
 ghost use Rattle.rl_types.specs.Declarations.{Declarations};
-ghost use Rattle.rl_types.specs.PlainType.{bool as bool_type, int as int_type, str as str_type, loc as loc_type, list, set, mapping, tuple, named, plain_type, field_type, types_of};
+ghost use Rattle.rl_types.specs.Joining.{collection_of};
+ghost use Rattle.rl_types.specs.PlainType.{bool as bool_type, int as int_type, str as str_type, loc as loc_type, mapping, tuple, named, plain_type, field_type, types_of};
 ghost use Rattle.rl_types.specs.Types.{join, joins, join_names, is_tree};
 
 use crate::decls::Decls;
 use crate::subtyping::TREE;
-use rl_base::{Place, Row, Shared};
-use rl_grammar::Name;
+use rl_base::{Name, Place, Row, Shared};
 use rl_syntax::{Field, Ty};
 use std::alloc::{AllocError, Global};
 
@@ -26,23 +26,39 @@ fn least_above(b: &Ty, a: &Ty, decls: &Decls, alloc: Global) -> Result<Ty, Alloc
     ensures { IfOk result (λ ty. plain_type ty ≡ join decls.now (plain_type a.now) (plain_type b.now)) }
 {
     match a {
-        Ty::Void { .. } => share(b),
+        Ty::Void { .. } => b.share(),
         Ty::Value { place } => Ok(Ty::Value { place: *place }),
         Ty::Bool { place } => Ok(above_bool(b, *place)),
         Ty::Int { place } => Ok(above_int(b, *place)),
         Ty::Str { place } => Ok(above_str(b, *place)),
         Ty::Loc { place } => Ok(above_loc(b, *place)),
-        Ty::List { place, element } => above_list(b, *place, element, decls, alloc),
-        Ty::ListRelation { place, fields } => above_list_relation(
+        Ty::List { place, element } => above_collection(
             b,
+            Collection::List,
+            *place,
+            element,
+            decls,
+            alloc,
+        ),
+        Ty::ListRelation { place, fields } => above_rows(
+            b,
+            Collection::List,
             *place,
             fields.as_slice(),
             decls,
             alloc,
         ),
-        Ty::Set { place, element } => above_set(b, *place, element, decls, alloc),
-        Ty::Relation { place, fields } => above_relation(
+        Ty::Set { place, element } => above_collection(
             b,
+            Collection::Set,
+            *place,
+            element,
+            decls,
+            alloc,
+        ),
+        Ty::Relation { place, fields } => above_rows(
+            b,
+            Collection::Set,
             *place,
             fields.as_slice(),
             decls,
@@ -51,49 +67,6 @@ fn least_above(b: &Ty, a: &Ty, decls: &Decls, alloc: Global) -> Result<Ty, Alloc
         Ty::Map { place, key, value } => above_map(b, *place, key, value, decls, alloc),
         Ty::Tuple { place, fields } => above_tuple(b, *place, fields.as_slice(), decls, alloc),
         Ty::Named { place, name } => above_name(b, *place, name, decls, alloc),
-    }
-}
-
-// The same type, which shares its parts.
-fn share(ty: &Ty) -> Result<Ty, AllocError>
-    ensures { IfOk result (λ same. same ≡ ty.now) }
-{
-    match ty {
-        Ty::List { place, element } => Ok(Ty::List {
-            place: *place,
-            element: element.share()?,
-        }),
-        Ty::Set { place, element } => Ok(Ty::Set {
-            place: *place,
-            element: element.share()?,
-        }),
-        Ty::Map { place, key, value } => Ok(Ty::Map {
-            place: *place,
-            key: key.share()?,
-            value: value.share()?,
-        }),
-        Ty::Tuple { place, fields } => Ok(Ty::Tuple {
-            place: *place,
-            fields: fields.share()?,
-        }),
-        Ty::Relation { place, fields } => Ok(Ty::Relation {
-            place: *place,
-            fields: fields.share()?,
-        }),
-        Ty::ListRelation { place, fields } => Ok(Ty::ListRelation {
-            place: *place,
-            fields: fields.share()?,
-        }),
-        Ty::Bool { place } => Ok(Ty::Bool { place: *place }),
-        Ty::Int { place } => Ok(Ty::Int { place: *place }),
-        Ty::Str { place } => Ok(Ty::Str { place: *place }),
-        Ty::Loc { place } => Ok(Ty::Loc { place: *place }),
-        Ty::Void { place } => Ok(Ty::Void { place: *place }),
-        Ty::Value { place } => Ok(Ty::Value { place: *place }),
-        Ty::Named { place, name } => Ok(Ty::Named {
-            place: *place,
-            name: name.share()?,
-        }),
     }
 }
 
@@ -137,144 +110,90 @@ fn above_loc(b: &Ty, place: Place) -> Ty
     }
 }
 
-// The least type above the lists of the element and the type.
+// A kind of collection of elements.
+#[derive(Clone, Copy)]
+enum Collection {
+    List,
+    Set,
+}
+
+fn collection_type(kind: Collection, place: Place, element: Shared<Ty>) -> Ty
+    ensures { plain_type result ≡ collection_of kind (plain_type element) }
+{
+    match kind {
+        Collection::List => Ty::List { place, element },
+        Collection::Set => Ty::Set { place, element },
+    }
+}
+
+fn rows_type(kind: Collection, place: Place, fields: Row<Field>) -> Ty
+    ensures { plain_type result ≡ collection_of kind (tuple (types_of (map field_type fields))) }
+{
+    match kind {
+        Collection::List => Ty::ListRelation { place, fields },
+        Collection::Set => Ty::Relation { place, fields },
+    }
+}
+
+// The least type above the collections of the element and the type.
 #[cycle(join)]
 #[tactic(auto, unfolding(crate::specs::Types::join))]
-fn above_list(
+fn above_collection(
     b: &Ty,
+    kind: Collection,
     place: Place,
     element: &Shared<Ty>,
     decls: &Decls,
     alloc: Global,
 ) -> Result<Ty, AllocError>
-    ensures { IfOk result (λ ty. plain_type ty ≡ join decls.now (list (plain_type element.now)) (plain_type b.now)) }
+    ensures { IfOk result (λ ty. plain_type ty ≡ join decls.now (collection_of kind (plain_type element.now)) (plain_type b.now)) }
 {
-    match b {
-        Ty::Void { .. } => Ok(Ty::List {
-            place,
-            element: element.share()?,
-        }),
-        Ty::List { element: other, .. } => Ok(Ty::List {
-            place,
-            element: Shared::new(
-                alloc,
-                least_above(other.get(), element.get(), decls, alloc)?,
-            )?,
-        }),
-        Ty::ListRelation { fields, .. } => Ok(Ty::List {
-            place,
-            element: Shared::new(
-                alloc,
-                above_tuples_and(fields.as_slice(), element.get(), decls, alloc)?,
-            )?,
-        }),
-        _ => Ok(Ty::Value { place }),
-    }
+    let joined = match (kind, b) {
+        (_, Ty::Void { .. }) => return Ok(collection_type(kind, place, element.share()?)),
+        (Collection::List, Ty::List { element: other, .. })
+        | (Collection::Set, Ty::Set { element: other, .. }) => least_above(
+            other.get(),
+            element.get(),
+            decls,
+            alloc,
+        )?,
+        (Collection::List, Ty::ListRelation { fields, .. })
+        | (Collection::Set, Ty::Relation { fields, .. }) => {
+            above_tuples_and(fields.as_slice(), element.get(), decls, alloc)?
+        }
+        _ => return Ok(Ty::Value { place }),
+    };
+    Ok(collection_type(kind, place, Shared::new(alloc, joined)?))
 }
 
-// The least type above the lists of tuples of the fields and the type.
+// The least type above the collections of tuples of the fields and the type.
 #[cycle(join)]
 #[tactic(auto, unfolding(crate::specs::Types::join))]
-fn above_list_relation(
+fn above_rows(
     b: &Ty,
+    kind: Collection,
     place: Place,
     fields: &[Field],
     decls: &Decls,
     alloc: Global,
 ) -> Result<Ty, AllocError>
-    ensures { IfOk result (λ ty. plain_type ty ≡ join decls.now (list (tuple (types_of (map field_type fields.now)))) (plain_type b.now)) }
+    ensures { IfOk result (λ ty. plain_type ty ≡ join decls.now (collection_of kind (tuple (types_of (map field_type fields.now)))) (plain_type b.now)) }
 {
-    match b {
-        Ty::Void { .. } => Ok(Ty::ListRelation {
+    let joined = match (kind, b) {
+        (_, Ty::Void { .. }) => return Ok(rows_type(kind, place, share_fields(fields, alloc)?)),
+        (Collection::List, Ty::List { element, .. }) | (Collection::Set, Ty::Set { element, .. }) =>
+            above_tuple(element.get(), place, fields, decls, alloc)?,
+        (Collection::List, Ty::ListRelation { fields: others, .. })
+        | (Collection::Set, Ty::Relation { fields: others, .. }) => above_tuples(
+            others.as_slice(),
             place,
-            fields: share_fields(fields, alloc)?,
-        }),
-        Ty::List { element, .. } => Ok(Ty::List {
-            place,
-            element: Shared::new(
-                alloc,
-                above_tuple(element.get(), place, fields, decls, alloc)?,
-            )?,
-        }),
-        Ty::ListRelation { fields: others, .. } => Ok(Ty::List {
-            place,
-            element: Shared::new(
-                alloc,
-                above_tuples(others.as_slice(), place, fields, decls, alloc)?,
-            )?,
-        }),
-        _ => Ok(Ty::Value { place }),
-    }
-}
-
-// The least type above the sets of the element and the type.
-#[cycle(join)]
-#[tactic(auto, unfolding(crate::specs::Types::join))]
-fn above_set(
-    b: &Ty,
-    place: Place,
-    element: &Shared<Ty>,
-    decls: &Decls,
-    alloc: Global,
-) -> Result<Ty, AllocError>
-    ensures { IfOk result (λ ty. plain_type ty ≡ join decls.now (set (plain_type element.now)) (plain_type b.now)) }
-{
-    match b {
-        Ty::Void { .. } => Ok(Ty::Set {
-            place,
-            element: element.share()?,
-        }),
-        Ty::Set { element: other, .. } => Ok(Ty::Set {
-            place,
-            element: Shared::new(
-                alloc,
-                least_above(other.get(), element.get(), decls, alloc)?,
-            )?,
-        }),
-        Ty::Relation { fields, .. } => Ok(Ty::Set {
-            place,
-            element: Shared::new(
-                alloc,
-                above_tuples_and(fields.as_slice(), element.get(), decls, alloc)?,
-            )?,
-        }),
-        _ => Ok(Ty::Value { place }),
-    }
-}
-
-// The least type above the sets of tuples of the fields and the type.
-#[cycle(join)]
-#[tactic(auto, unfolding(crate::specs::Types::join))]
-fn above_relation(
-    b: &Ty,
-    place: Place,
-    fields: &[Field],
-    decls: &Decls,
-    alloc: Global,
-) -> Result<Ty, AllocError>
-    ensures { IfOk result (λ ty. plain_type ty ≡ join decls.now (set (tuple (types_of (map field_type fields.now)))) (plain_type b.now)) }
-{
-    match b {
-        Ty::Void { .. } => Ok(Ty::Relation {
-            place,
-            fields: share_fields(fields, alloc)?,
-        }),
-        Ty::Set { element, .. } => Ok(Ty::Set {
-            place,
-            element: Shared::new(
-                alloc,
-                above_tuple(element.get(), place, fields, decls, alloc)?,
-            )?,
-        }),
-        Ty::Relation { fields: others, .. } => Ok(Ty::Set {
-            place,
-            element: Shared::new(
-                alloc,
-                above_tuples(others.as_slice(), place, fields, decls, alloc)?,
-            )?,
-        }),
-        _ => Ok(Ty::Value { place }),
-    }
+            fields,
+            decls,
+            alloc,
+        )?,
+        _ => return Ok(Ty::Value { place }),
+    };
+    Ok(collection_type(kind, place, Shared::new(alloc, joined)?))
 }
 
 // The least type above the maps of the key and value and the type.

@@ -1,14 +1,14 @@
 //! Types: which values have them, which is below which, and the declarations that they rest on.
 #![tactic(auto)]
 
-pub mod constructor;
-pub mod decls;
+mod constructor;
+mod decls;
 mod exceptions;
 mod gathering;
-pub mod joining;
-pub mod laws;
-pub mod membership;
-pub mod subtyping;
+mod joining;
+mod laws;
+mod membership;
+mod subtyping;
 
 pub use constructor::Constructor;
 pub use decls::Decls;

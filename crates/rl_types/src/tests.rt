@@ -1,6 +1,8 @@
+//! Types over small declarations.
+
 use crate::{Decls, has, join, subtype};
-use rl_base::{Place, Row, Shared};
-use rl_grammar::{Name, SyntaxDef, SyntaxRole};
+use rl_base::{Name, Place, Row, Shared};
+use rl_productions::{SyntaxDef, SyntaxRole};
 use rl_syntax::{Decl, Field, Identifier, Module, Ty, Variant};
 use rl_value::{Value, int, list, node, set, tuple};
 use std::alloc::{AllocError, Global};

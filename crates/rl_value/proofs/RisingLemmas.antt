@@ -7,11 +7,7 @@ use Rattle.std.specs.declared.cmp.Ordering.TheVariants.{Less, Equal, Greater}
 use Rattle.std.specs.Ordering.{ordering_reverse}
 use Rattle.std.specs.Cmp.{IsTotalOrder}
 use Rattle.std.proofs.lemmas.Cmp.{tied_itself}
-use Rattle.rl_value.specs.Rising.{AllAbove, Rises, placed, put, rising}
-
-abbrev pub In : {K : Type 0} → K → List K → Type 0
-In x [] = ⊥
-In x (y ∷ ys) = (x ≡ y) ⊎ In x ys
+use Rattle.rl_value.specs.Rising.{AllAbove, In, Rises, placed, put, rising}
 
 pub In-from_Contains : {K : Type 0} (xs : List K) (x : K) → Contains xs x → In x xs
 In-from_Contains [] x (k, lt, e) = absurd (omega arith)

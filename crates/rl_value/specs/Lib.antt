@@ -1,13 +1,15 @@
+-- What values are, and what is asked of them.
+pub mod Plain
+pub mod Order
+pub mod Rising
+pub mod Kids
 pub mod Built
 pub mod Entries
-pub mod Falls
-pub mod Kids
-pub mod Laws
-pub mod Levels
-pub mod Order
-pub mod Plain
 pub mod Readers
-pub mod Rising
-pub mod Rose
-pub mod View
 pub mod Opened
+pub mod Laws
+-- Inside: how values are kept, and how proofs go through them.
+pub mod View
+pub mod Rose
+pub mod Levels
+pub mod Falls

@@ -1,3 +1,5 @@
+//! Values made of their parts.
+
 ghost use Rattle.std.specs.Prelude.{◌≡◌, ◌≤◌, ◌<◌, ◌^◌, ◌+◌, ◌⊎◌, All, MatchOption, map};
 ghost use Rattle.std.specs.Rc.{rc_str_bytes};
 ghost use Rattle.rl_value.specs.Plain.{bool, int, text, location, tuple, list, set, mapping, node, tree, leaf, plains_of, pairs_of, plains_size, plains_height, pairs_size, pairs_height, IsPart};

@@ -1,3 +1,5 @@
+//! Why no value was made.
+
 use std::alloc::{AllocError, AllocFailed};
 
 /// Why a value was not built.

@@ -1,3 +1,5 @@
+//! Sets and maps made of their elements and entries.
+
 ghost use Rattle.std.specs.Prelude.{◌≡◌, ◌≤◌, ◌<◌, ◌^◌, ◌+◌, ◌⊎◌, [], IfOk, OnOk, MatchOption, map};
 ghost use Rattle.rl_value.specs.Plain.{set, mapping, plains_of, pairs_of, pairs_size, pairs_height};
 ghost use Rattle.rl_value.specs.View.{pair_of};
@@ -62,7 +64,7 @@ pub fn map(alloc: Global, pairs: Vec<(Value, Value)>) -> Result<Value, BuildEnd>
     }
 }
 
-/// The size and the height of a map with these inside, unless a limit is passed.
+// The size and the height of a map with these inside, unless a limit is passed.
 fn measure_pairs(pairs: &[Entry]) -> Option<(u32, u32)>
     ensures { MatchOption result
         ((2 ^ 24 < 1 + pairs_size (pairs_of (map pair_of pairs.now))) ⊎ (2000 < 1 + pairs_height (pairs_of (map pair_of pairs.now))))
@@ -84,7 +86,7 @@ fn measure_pairs(pairs: &[Entry]) -> Option<(u32, u32)>
     Some((size, height))
 }
 
-/// The entries by their keys; the later of two equal keys wins.
+// The entries by their keys; the later of two equal keys wins.
 fn in_order(alloc: Global, pairs: Vec<(Value, Value)>) -> Result<Vec<Entry>, AllocError>
     ensures pairs { IfOk result (λ v. map pair_of v.items ≡ put_all [] pairs.items) }
     ensures rises { IfOk result (λ v. Rises plain_cmp (map (λ e. e.key) v.items)) }

@@ -1,3 +1,5 @@
+//! The values directly inside a value, and the value with others in their place.
+
 ghost use Rattle.std.specs.Prelude.{◌≡◌, ◌≤◌, ◌<◌, ◌^◌, ◌+◌, ◌-◌, IfOk, map, IsTrue, ◌↔◌, length, [], slice_get, slice_index, slice_index_or, Some};
 ghost use Rattle.rl_value.specs.Plain.{leaf, IsPart, IsTree, plains_of, plains_size, pairs_of, pairs_size};
 ghost use Rattle.rl_value.specs.Readers.{parts_of};
@@ -143,14 +145,14 @@ fn last_end(ends: &[u32], parts: &[Value]) -> u32
     }
 }
 
-/// The part of a tree in which one of its kids stands, and the kid's place inside that part.
+// The part of a tree in which one of its kids stands, and the kid's place inside that part.
 #[derive(Clone, Copy)]
 struct Place {
     part: usize,
     inside: u32,
 }
 
-/// Where the kid at place i stands.
+// Where the kid at place i stands.
 fn place_in(ends: &[u32], parts: &[Value], i: u32) -> Place
     requires ends { ends.now ≡ kid_ends 0 parts.now }
     requires within { i < length (parts_kids (plains_of parts.now)) }
@@ -166,7 +168,7 @@ fn place_in(ends: &[u32], parts: &[Value], i: u32) -> Place
     }
 }
 
-/// How many kids the parts before this one give.
+// How many kids the parts before this one give.
 fn before(ends: &[u32], part: usize) -> u32
     requires { part ≤ length ends.now }
     ensures { result ≡ before 0 ends.now part }
@@ -174,7 +176,7 @@ fn before(ends: &[u32], part: usize) -> u32
     if part == 0 { 0 } else { ends[part - 1] }
 }
 
-/// The place of the first end after i, by halving.
+// The place of the first end after i, by halving.
 fn first_after(ends: &[u32], i: u32) -> usize
     requires some { 0 < length ends.now }
     requires within { i < slice_index ends.now (length ends.now - 1) }

@@ -1,3 +1,5 @@
+//! The kinds of values.
+
 /// The kinds of values, in their order.
 #[derive(Clone, Copy, Debug, PartialEq, Eq)]
 pub enum Kind {

@@ -9,7 +9,7 @@ use crate::build::MAX_HEIGHT;
 use crate::value::Value;
 use std::cmp::Ordering;
 
-/// A place in the text of a syntax tree.
+// A place in the text of a syntax tree.
 #[derive(Drop)]
 struct Leaves<'a> {
     /// The bytes of the current leaf that are still to come.
@@ -19,7 +19,7 @@ struct Leaves<'a> {
     depth: usize,
 }
 
-/// The parts to come at the lowest level.
+// The parts to come at the lowest level.
 fn lowest<'a>(at: &Leaves<'a>) -> &'a [Value]
     requires some { 0 < at.now.depth }
     requires full { at.now.depth ≤ 2000 }
@@ -30,7 +30,7 @@ fn lowest<'a>(at: &Leaves<'a>) -> &'a [Value]
     parts
 }
 
-/// Goes one step down or up to the next leaf.
+// Goes one step down or up to the next leaf.
 fn advance<'a>(at: &mut Leaves<'a>, parts: &'a [Value])
     requires some { 0 < at.old.depth }
     requires full { at.old.depth ≤ 2000 }
@@ -55,7 +55,7 @@ fn advance<'a>(at: &mut Leaves<'a>, parts: &'a [Value])
     }
 }
 
-/// The next byte, unless the text is at its end.
+// The next byte, unless the text is at its end.
 fn next_byte(at: &mut Leaves) -> Option<u8>
     requires full { at.old.depth ≤ 2000 }
     requires room { LeavesRoom 0 (take at.old.depth at.old.levels) }
@@ -72,7 +72,7 @@ fn next_byte(at: &mut Leaves) -> Option<u8>
     first_byte(at)
 }
 
-/// The next byte of the current leaf.
+// The next byte of the current leaf.
 fn first_byte(at: &mut Leaves) -> Option<u8>
     ensures kept { (at.new.depth ≡ at.old.depth) × (at.new.levels ≡ at.old.levels) }
     ensures text { at.old.leaf.now ≡ option_to_list result ++ at.new.leaf.now }
@@ -88,7 +88,7 @@ fn first_byte(at: &mut Leaves) -> Option<u8>
     }
 }
 
-/// The start of the text of these parts.
+// The start of the text of these parts.
 fn leaves_of<'a>(parts: &'a [Value]) -> Leaves<'a>
     requires { plains_height (plains_of parts.now) < 2000 }
     ensures depth { result.depth ≤ 2000 }

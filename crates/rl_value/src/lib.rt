@@ -1,20 +1,20 @@
 //! Shared, immutable values.
 #![tactic(auto)]
 
-pub mod build;
-pub mod build_end;
-pub mod collect;
+mod build;
+mod build_end;
+mod collect;
 mod kids;
-pub mod kind;
+mod kind;
 mod leaves;
-pub mod open;
+mod open;
 mod order;
 mod rank;
 pub mod readers;
 mod renew;
 mod same;
-pub mod shape;
-pub mod value;
+mod shape;
+mod value;
 
 pub use build::{MAX_HEIGHT, MAX_SIZE, int, leaf, list, location, node, text, tree, truth, tuple};
 pub use build_end::BuildEnd;

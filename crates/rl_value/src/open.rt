@@ -1,3 +1,5 @@
+//! A value by its kind and parts.
+
 ghost use Rattle.std.specs.Prelude.{◌≡◌};
 ghost use Rattle.rl_value.specs.Plain.{Fits};
 ghost use Rattle.rl_value.specs.Opened.{closed, IsInOrder};

@@ -1,3 +1,5 @@
+//! The order of values.
+
 ghost use Rattle.std.specs.Prelude.{◌≡◌, refl, map};
 ghost use Rattle.std.specs.Ordering.{as_partial_cmp};
 ghost use Rattle.std.specs.Cmp.{partial_equiv_from_equiv, partial_order_from_agreeing_total};
@@ -13,7 +15,7 @@ use crate::same::same;
 use crate::value::{Entry, Form, Value};
 use std::cmp::Ordering;
 
-/// Kinds in their order, and two of one kind by what they hold.
+// Kinds in their order, and two of one kind by what they hold.
 #[cycle(compare)]
 fn compare(a: &Value, b: &Value) -> Ordering
     ensures { result ≡ plain_cmp a.now b.now }
@@ -44,7 +46,7 @@ fn compare(a: &Value, b: &Value) -> Ordering
     }
 }
 
-/// The first that differ decide, and a list comes before what it begins.
+// The first that differ decide, and a list comes before what it begins.
 #[cycle(compare)]
 fn compare_all(left: &[Value], right: &[Value]) -> Ordering
     ensures { result ≡ plains_cmp (plains_of left.now) (plains_of right.now) }
@@ -59,8 +61,8 @@ fn compare_all(left: &[Value], right: &[Value]) -> Ordering
     left.len().cmp(&right.len())
 }
 
-/// The same for the parts of trees, where comparing what is equal would read each text once more at
-/// each level.
+// The same for the parts of trees, where comparing what is equal would read each text once more at
+// each level.
 #[cycle(compare)]
 fn compare_parts(a: &[Value], b: &[Value]) -> Ordering
     ensures { result ≡ plains_cmp (plains_of a.now) (plains_of b.now) }
@@ -76,7 +78,7 @@ fn compare_parts(a: &[Value], b: &[Value]) -> Ordering
     a.len().cmp(&b.len())
 }
 
-/// Key, value, key, value.
+// Key, value, key, value.
 #[cycle(compare)]
 fn compare_pairs(a: &[Entry], b: &[Entry]) -> Ordering
     ensures { result ≡ pairs_cmp (pairs_of (map pair_of a.now)) (pairs_of (map pair_of b.now)) }

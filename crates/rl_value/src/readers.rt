@@ -1,3 +1,5 @@
+//! What is read from a value.
+
 ghost use Rattle.std.specs.Prelude.{◌≡◌, ◌↔◌, IsTrue, ◌<◌, length, slice_get, All, Some};
 ghost use Rattle.std.specs.Option.{option_copied, option_map};
 ghost use Rattle.rl_value.specs.Plain.{IsPart, IsTree};

@@ -1,3 +1,5 @@
+//! A value with other children.
+
 ghost use Rattle.std.specs.Prelude.{◌≡◌, ◌≤◌, [], length, All, IfOk, Err};
 ghost use Rattle.rl_value.specs.Plain.{list, plains_of, Fits, IsPart, IsTree, tree};
 ghost use Rattle.rl_value.specs.View.{tree_of, shape_of};
@@ -41,7 +43,7 @@ impl Value {
     }
 }
 
-/// The same value, which fits.
+// The same value, which fits.
 fn shared(value: &Value) -> Result<Value, AllocError>
     ensures { IfOk result (λ v. (v ≡ value.now) × Fits value.now) }
 {
@@ -51,7 +53,7 @@ fn shared(value: &Value) -> Result<Value, AllocError>
     Ok(same)
 }
 
-/// The values by twos, as keys and values of a map.
+// The values by twos, as keys and values of a map.
 fn paired(alloc: Global, values: Vec<Value>) -> Result<Vec<(Value, Value)>, AllocError>
     ensures { IfOk result (λ pairs. pairs.items ≡ in_pairs values.items) }
 {
@@ -66,7 +68,7 @@ fn paired(alloc: Global, values: Vec<Value>) -> Result<Vec<(Value, Value)>, Allo
     Ok(pairs)
 }
 
-/// A syntax tree with the first of `kids` in place of its own.
+// A syntax tree with the first of `kids` in place of its own.
 #[cycle(renew)]
 fn renewed_tree(alloc: Global, old: &Branch, kids: &[Value]) -> Result<Value, BuildEnd>
     requires parts { All IsPart old.now.parts.items.items }
@@ -83,7 +85,7 @@ fn renewed_tree(alloc: Global, old: &Branch, kids: &[Value]) -> Result<Value, Bu
     }
 }
 
-/// The parts from the left, each with the next of `kids`.
+// The parts from the left, each with the next of `kids`.
 #[cycle(renew)]
 fn renewed_parts(alloc: Global, parts: &[Value], kids: &[Value]) -> Result<Vec<Value>, BuildEnd>
     requires parts { All IsPart parts.now }
@@ -105,7 +107,7 @@ fn renewed_parts(alloc: Global, parts: &[Value], kids: &[Value]) -> Result<Vec<V
     Ok(renewed)
 }
 
-/// A part with the first of `kids` in place of what it gives.
+// A part with the first of `kids` in place of what it gives.
 #[cycle(renew)]
 fn renewed_part(alloc: Global, part: &Value, kids: &[Value]) -> Result<Value, BuildEnd>
     requires part { IsPart part.now }

@@ -33,7 +33,7 @@ pub(crate) fn same(a: &Value, b: &Value) -> bool
     }
 }
 
-/// Their texts need not be read, since equal parts have equal texts.
+// Their texts need not be read, since equal parts have equal texts.
 #[cycle(same)]
 fn same_trees(a: &Branch, b: &Branch) -> bool
     ensures { result ≡ is_eq (plain_cmp (tree_of a.now) (tree_of b.now)) }

@@ -1,3 +1,5 @@
+//! What syntax trees and locations say of themselves.
+
 ghost use Rattle.std.specs.Prelude.{◌≡◌, IfOk};
 
 use std::alloc::AllocError;

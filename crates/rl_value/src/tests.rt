@@ -1,3 +1,5 @@
+//! Values of every kind.
+
 use crate::*;
 use std::alloc::Global;
 use std::rc::RcStr;
@@ -12,7 +14,7 @@ fn shape(alloc: Global, role: Role, sort: &str) -> Result<Shape, BuildEnd> {
     })
 }
 
-/// A tree, where each part can be one.
+// A tree, where each part can be one.
 fn tree_of(alloc: Global, shape: Shape, parts: Vec<Value>) -> Result<Value, BuildEnd> {
     for part in &parts {
         if !part.is_part() {
@@ -22,7 +24,7 @@ fn tree_of(alloc: Global, shape: Shape, parts: Vec<Value>) -> Result<Value, Buil
     tree(alloc, shape, parts)
 }
 
-/// A value with other children, where they can be its.
+// A value with other children, where they can be its.
 fn renewed(alloc: Global, value: &Value, kids: Vec<Value>) -> Result<Value, BuildEnd> {
     if kids.len() != value.child_count() as usize {
         return Err(BuildEnd::TooLarge);
@@ -49,7 +51,7 @@ fn ints(alloc: Global, numbers: &[i128]) -> Result<Vec<Value>, BuildEnd> {
     Ok(values)
 }
 
-/// The tree of `a , b`, a list of words with layout and a separator between them.
+// The tree of `a , b`, a list of words with layout and a separator between them.
 fn list_of_words(alloc: Global, first: &str, second: &str) -> Result<Value, BuildEnd> {
     let mut items = Vec::new(alloc);
     items.push(word(alloc, Role::Lexical, "W", first)?)?;
@@ -70,7 +72,7 @@ fn few_pairs(alloc: Global) -> Result<Vec<(Value, Value)>, BuildEnd> {
     Ok(pairs)
 }
 
-/// One value of each kind, in the order of kinds.
+// One value of each kind, in the order of kinds.
 fn one_of_each(alloc: Global) -> Result<Vec<Value>, BuildEnd> {
     let mut values = Vec::new(alloc);
     values.push(truth(true))?;
@@ -155,7 +157,7 @@ fn renews_a_tree(rt: HostRuntime) -> Result<(), Fail> {
     Ok(())
 }
 
-/// A list at the limit can be compared and let go, and one above it is refused.
+// A list at the limit can be compared and let go, and one above it is refused.
 #[test]
 fn keeps_to_the_height(rt: HostRuntime) -> Result<(), Fail> {
     let alloc = rt.alloc();
@@ -172,7 +174,7 @@ fn keeps_to_the_height(rt: HostRuntime) -> Result<(), Fail> {
     Ok(())
 }
 
-/// A tree at the limit, with a leaf of this sort in its innermost tree.
+// A tree at the limit, with a leaf of this sort in its innermost tree.
 fn high_tree(alloc: Global, sort: &str) -> Result<Value, BuildEnd> {
     let mut high = word(alloc, Role::Lexical, sort, "x")?;
     for _ in 2..MAX_HEIGHT {
@@ -183,7 +185,7 @@ fn high_tree(alloc: Global, sort: &str) -> Result<Value, BuildEnd> {
     Ok(high)
 }
 
-/// Trees at the limit that have one text, and differ in the innermost, are compared.
+// Trees at the limit that have one text, and differ in the innermost, are compared.
 #[test]
 fn orders_high_trees(rt: HostRuntime) -> Result<(), Fail> {
     let a = high_tree(rt.alloc(), "A")?;

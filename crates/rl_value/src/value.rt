@@ -1,3 +1,5 @@
+//! Shared values.
+
 ghost use Rattle.std.specs.Prelude.{◌≡◌, ◌≤◌, ◌^◌, IfOk};
 ghost use Rattle.rl_value.specs.Plain.{plain_size, plain_height};
 

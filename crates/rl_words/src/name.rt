@@ -23,7 +23,7 @@ fn is_digit(byte: u8) -> bool
     matches!(byte, b'0'..=b'9')
 }
 
-/// The stage behind one more byte; None where it may not stand there.
+// The stage behind one more byte; None where it may not stand there.
 fn next_stage(stage: Stage, byte: u8) -> Option<Stage>
     ensures { result ≡ next_stage stage byte }
 {

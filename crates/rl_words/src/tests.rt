@@ -4,7 +4,7 @@ use crate::asked_of;
 use std::alloc::Global;
 use std::test::Fail;
 
-/// Words, and the root, the name and the units that they ask for.
+// Words, and the root, the name and the units that they ask for.
 type Case = (
     &'static [&'static str],
     Option<(&'static str, &'static str, u64)>,

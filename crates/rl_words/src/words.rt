@@ -13,7 +13,7 @@ use clap::error::ErrorKind;
 use clap::{Arg, ArgAction, ArgMatches, Command};
 use std::alloc::{AllocError, Global};
 
-/// The units of a run whose words give no number.
+// The units of a run whose words give no number.
 const DEFAULT_UNITS: u64 = 50_000_000;
 
 /// A module to run.
@@ -27,7 +27,7 @@ pub struct Asked<'a> {
     pub units: u64,
 }
 
-/// The command line: two options and two plain words, with no help flag.
+// The command line: two options and two plain words, with no help flag.
 fn command<'a>(alloc: Global) -> Result<Command<'a>, AllocError>
     ensures { IfOk result (λ command. app_of command ≡ app) }
 {
@@ -46,7 +46,7 @@ fn command<'a>(alloc: Global) -> Result<Command<'a>, AllocError>
         .arg(name)
 }
 
-/// Whether a word may be the value of an option: it is not empty and begins with no `-`.
+// Whether a word may be the value of an option: it is not empty and begins with no `-`.
 fn is_value(word: &str) -> bool
     ensures { result ≡ is_value word.now }
 {
@@ -62,7 +62,7 @@ fn is_digits(text: &[u8]) -> bool
     text.iter().all(|byte| byte.is_ascii_digit())
 }
 
-/// The number of decimal digits; None where there are none, another character, or too great a number.
+// The number of decimal digits; None where there are none, another character, or too great a number.
 fn number(digits: &str) -> Option<u64>
     ensures { result ≡ number_of digits.now }
 {
@@ -90,7 +90,7 @@ fn root_of<'a>(root: Option<&'a str>) -> &'a str
     }
 }
 
-/// Whether an option is left out or has a value that it may have.
+// Whether an option is left out or has a value that it may have.
 fn is_left_out_or_value(given: Option<&str>) -> bool
     ensures { result ≡ option_map_or is_value (option_copied given.entry) true }
 {
@@ -100,7 +100,7 @@ fn is_left_out_or_value(given: Option<&str>) -> bool
     }
 }
 
-/// What is asked for by the values of the options and by the plain words.
+// What is asked for by the values of the options and by the plain words.
 fn asked_by<'a>(
     root: Option<&'a str>,
     steps: Option<&'a str>,

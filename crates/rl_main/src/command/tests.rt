@@ -13,7 +13,7 @@ const THREE: &str =
 
 const USAGE_LINE: &str = "usage: rascal JOB MODULE [ARG].. [--root DIR] [--steps N]\n";
 
-/// What a run leaves: its status, and the bytes on out and err.
+// What a run leaves: its status, and the sinks.
 #[derive(Drop)]
 struct Left {
     status: Status,
@@ -43,7 +43,7 @@ fn run_over(
     Ok(Left { status, out, err })
 }
 
-/// Runs over the file of one path, and compares what is left.
+// Runs over the file of one path, and compares what is left.
 fn check(
     rt: &(impl AllocGlobal + Abort),
     words: &[&str],
@@ -337,6 +337,8 @@ fn nothing_is_put_after_a_put_on_out_that_failed(rt: HostRuntime) -> Result<(), 
         assert_eq!(rt; left.out.bytes(), out.as_bytes(), "{put} {part}");
         assert_eq!(rt; left.err.bytes(), b"".as_slice(), "{put} {part}");
         assert_eq!(rt; left.status, Status::SinkFault, "{put} {part}");
+        assert_eq!(rt; left.out.puts(), u64::from(put), "{put} {part}");
+        assert_eq!(rt; left.err.puts(), 0, "{put} {part}");
     }
     Ok(())
 }
@@ -351,6 +353,26 @@ fn a_put_on_err_that_fails_leaves_a_front_of_its_line(rt: HostRuntime) -> Result
         assert_eq!(rt; left.err.bytes(), err.as_bytes(), "{err}");
         assert_eq!(rt; left.status, Status::SinkFault, "{err}");
         assert_eq!(rt; left.status.code(), 73, "{err}");
+        assert_eq!(rt; left.out.puts(), 0, "{err}");
+        assert_eq!(rt; left.err.puts(), 1, "{err}");
+    }
+    Ok(())
+}
+
+#[test]
+fn each_line_is_one_put(rt: HostRuntime) -> Result<(), Fail> {
+    let rows: [(&[&str], u64, u64); 4] = [
+        (&["run", "Main"], 3, 0),
+        (&["run", "Main", "--steps", "8"], 2, 1),
+        (&["run", "Mein"], 0, 1),
+        (&["run"], 0, 1),
+    ];
+    for (words, out, err) in rows {
+        let mut files = MemFiles::new(rt.alloc());
+        files.add("Main.rsc", THREE.as_bytes())?;
+        let left = run_over(rt.alloc(), words, &mut files, &[], &[])?;
+        assert_eq!(rt; left.out.puts(), out, "{words:?}");
+        assert_eq!(rt; left.err.puts(), err, "{words:?}");
     }
     Ok(())
 }

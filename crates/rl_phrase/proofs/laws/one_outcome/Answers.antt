@@ -1,5 +1,5 @@
-use Rattle.rl_phrase.proofs.Determined.{one, some}
+use Rattle.rl_phrase.proofs.Determined.{one, some, gives_outcome}
 use Rattle.rl_phrase.proofs.laws.one_outcome.Goals as goal
 
 pub returns : goal.returns
-returns c = record { one = one; some = some }
+returns c = record { one = one; some = some; first = gives_outcome }

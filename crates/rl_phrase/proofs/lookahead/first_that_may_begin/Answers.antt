@@ -15,6 +15,6 @@ loop-next-preserved c =
           (λ (l : row < next). c.loop-next.invariant.rows row from l)
           (λ (l : next ≤ row).
           let same : next ≡ row = omega arith in
-          subst (λ r. (r < end) × CannotBegin c.args.tokens.now c.args.firsts.now r c.args.token) same (within, c.cannot_begin.ensures c.if-cannot_begin.true))
+          subst (λ r. (r < end) × CannotBegin c.args.tokens.now c.args.firsts.now r c.args.token) same (within, c.cannot_begin.ensures.0 c.if-cannot_begin.true))
           (cases_lt row next);
     }

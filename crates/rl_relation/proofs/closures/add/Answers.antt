@@ -1,6 +1,6 @@
 use Rattle.std.proofs.Common.{◌≡◌, ◌++◌, [], ◌∷◌, inl, inr, sym, subst, ap, ◌∙◌}
 use Rattle.rl_value.specs.Plain.{Plain}
-use Rattle.rl_value.proofs.RisingLemmas.{In}
+use Rattle.rl_value.specs.Rising.{In}
 use Rattle.rl_relation.proofs.PathLemmas.{In-last, In-left}
 use Rattle.rl_relation.proofs.closures.add.Goals as goal
 

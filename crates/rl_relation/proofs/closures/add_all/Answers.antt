@@ -1,5 +1,5 @@
 use Rattle.std.proofs.Common.{◌<◌, length, sym, subst, arith}
-use Rattle.rl_value.proofs.RisingLemmas.{In}
+use Rattle.rl_value.specs.Rising.{In}
 use Rattle.rl_relation.proofs.PathLemmas.{grows_none, grows_one, has_more, one_in, In-at, take_all}
 use Rattle.rl_relation.proofs.closures.add_all.Goals as goal
 

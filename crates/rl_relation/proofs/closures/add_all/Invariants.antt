@@ -1,6 +1,6 @@
 use Rattle.std.proofs.Common.{take}
 use Rattle.rl_value.specs.Plain.{Plain}
-use Rattle.rl_value.proofs.RisingLemmas.{In}
+use Rattle.rl_value.specs.Rising.{In}
 use Rattle.rl_relation.specs.Closures.{Covers, GrowsBy}
 use Rattle.rl_relation.proofs.closures.add_all.Given as goal
 

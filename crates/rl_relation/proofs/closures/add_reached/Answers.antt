@@ -1,6 +1,6 @@
 use Rattle.std.proofs.Common.{◌≡◌, ◌++◌, ◌⊎◌, inl, inr, map, sym, subst}
 use Rattle.rl_value.specs.Plain.{Plain}
-use Rattle.rl_value.proofs.RisingLemmas.{In}
+use Rattle.rl_value.specs.Rising.{In}
 use Rattle.rl_relation.specs.Pairs.{pair_of}
 use Rattle.rl_relation.specs.Closures.{Leads}
 use Rattle.rl_relation.proofs.ClosureLemmas.{on_ok, added_from, added_in, added_kept, from_large}

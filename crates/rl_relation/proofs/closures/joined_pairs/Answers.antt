@@ -1,6 +1,6 @@
 use Rattle.std.proofs.Common.{◌≡◌, Err, ap, sym, subst, arith}
 use Rattle.rl_value.specs.declared.build_end.BuildEnd.TheVariants.{TooLarge}
-use Rattle.rl_value.proofs.RisingLemmas.{In}
+use Rattle.rl_value.specs.Rising.{In}
 use Rattle.rl_relation.proofs.ClosureLemmas.{gathers_more, gathers_same, reached_large}
 use Rattle.rl_relation.proofs.closures.joined_pairs.Goals as goal
 

@@ -1,5 +1,5 @@
 use Rattle.std.proofs.Common.{◌≡◌, ◌<◌, [], length, get_or, sym, subst, ◌∙◌, arith}
-use Rattle.rl_value.proofs.RisingLemmas.{In}
+use Rattle.rl_value.specs.Rising.{In}
 use Rattle.rl_access.specs.Rows.{rests}
 use Rattle.rl_relation.specs.Closures.{GrowsBy}
 use Rattle.rl_relation.proofs.PathLemmas.{walks_start, walks_on, walks_whole}

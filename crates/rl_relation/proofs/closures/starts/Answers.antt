@@ -3,7 +3,8 @@ use Rattle.std.specs.List.{dedup}
 use Rattle.std.proofs.lemmas.List.Filters.{dedup_is}
 use Rattle.std.proofs.lemmas.List.Kept.{Contains-dedup}
 use Rattle.rl_value.specs.Laws.{plain_eq, plain_eq_equiv, plain_same}
-use Rattle.rl_value.proofs.RisingLemmas.{In, In-from_Contains, Contains-from_In}
+use Rattle.rl_value.specs.Rising.{In}
+use Rattle.rl_value.proofs.RisingLemmas.{In-from_Contains, Contains-from_In}
 use Rattle.rl_relation.proofs.closures.starts.Goals as goal
 
 pub returns : goal.returns

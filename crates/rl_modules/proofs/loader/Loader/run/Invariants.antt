@@ -1,6 +1,6 @@
-use Rattle.std.proofs.Common.{◌≡◌, ◌≤◌, ◌+◌, ◌*◌, ◌-◌, length, IfSome}
+use Rattle.std.proofs.Common.{◌≡◌, ◌≤◌, ◌+◌, ◌*◌, ◌-◌, Ok, length, IfSome}
 use Rattle.rl_modules.specs.Load.{most_modules}
-use Rattle.rl_modules.specs.Unfinished.{outcome_of, IsSound}
+use Rattle.rl_modules.specs.Unfinished.{outcome_of, GoesOn, IsSound}
 use Rattle.rl_modules.proofs.loader.Loader.run.Given as goal
 
 abbrev pub invariant-modules : goal.invariant-modules
@@ -8,7 +8,7 @@ invariant-modules g l = record {
   sound : IsSound l.self;
   held : g.F.Files.holds l.files ≡ g.F.Files.holds l.initial.files;
   counted : g.F.Files.faults l.initial.files ≤ g.F.Files.faults l.files;
-  outcome : IfSome (g.F.Files.holds l.initial.files) (λ held. outcome_of held l.root l.self ≡ outcome_of held l.root l.initial.self);
+  outcome : IfSome (g.F.Files.holds l.initial.files) (λ held. GoesOn {A = Unit {0}} (outcome_of held l.root l.initial.self) (g.F.Files.asked l.initial.files) (Ok tt) (g.F.Files.asked l.files) (outcome_of held l.root l.self));
 }
 
 abbrev pub decreases-modules : goal.decreases-modules

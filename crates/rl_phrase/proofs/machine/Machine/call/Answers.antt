@@ -58,7 +58,7 @@ returns-then-cannot_begin-clause-means c frames =
     let at = c.args.at in
     let parts = parts_in cells c.args.self.now.parts in
     let far = c.args.self.now.far in
-    let here : Phr tokens rules row at (Fails at) = passed_over tokens rules c.args.firsts.now row at c.requires.no_left_recursion c.requires.firsts (c.cannot_begin.ensures c.if-cannot_begin.true) in
+    let here : Phr tokens rules row at (Fails at) = passed_over tokens rules c.args.firsts.now row at c.requires.no_left_recursion c.requires.firsts (c.cannot_begin.ensures.0 c.if-cannot_begin.true) in
     subst (λ t. Leads tokens rules (Calling row at frames parts far) (after_turn cells t frames)) (sym c.to-then-cannot_begin.ensures)
     (subst (λ n. Leads tokens rules (Calling row at frames parts far) (Failing frames n)) (sym c.max.ensures)
     (jumps tokens rules row at (Fails at) here frames parts far))
@@ -76,7 +76,7 @@ returns-then-cannot_begin-2-clause-means c frames =
     let lt : row < length rules = ltb-true row (length rules) (sym lookup.0) in
     let rule : slice_get rules row ≡ Some c.in-Some.rule.now = slice_get_read rules (length rules) row c.in-Some.rule.now refl lt lookup.1 in
     let here : Phr tokens rules row at (Gives none at at) =
-    takes_nothing tokens rules c.args.firsts.now c.requires.no_left_recursion c.requires.firsts row at c.in-Some.rule.now rule (c.is_optional.ensures c.if-is_optional.true) (c.cannot_begin-then-is_optional.ensures c.if-cannot_begin-2.true) in
+    takes_nothing tokens rules c.args.firsts.now c.requires.no_left_recursion c.requires.firsts row at c.in-Some.rule.now rule (c.is_optional.ensures.0 c.if-is_optional.true) (c.cannot_begin-then-is_optional.ensures.0 c.if-cannot_begin-2.true) in
     subst (λ t. Leads tokens rules (Calling row at frames parts far) (after_turn cells t frames)) (sym c.to-then-cannot_begin-2.ensures)
     (subst (λ n. Leads tokens rules (Calling row at frames parts far) (Going at frames parts n)) (sym c.max-then-cannot_begin-2.ensures)
     (jumps tokens rules row at (Gives none at at) here frames parts far))

@@ -1,7 +1,0 @@
-use Rattle.std.proofs.Common.{◌≡◌, ◌++◌, drop}
-use Rattle.std.specs.List.{filter_map}
-use Rattle.rl_declaration_forms.specs.Constructor.{as_variant}
-use Rattle.rl_declaration_forms.proofs.constructor.variants.Given as goal
-
-abbrev pub invariant-loop-part : goal.invariant-loop-part
-invariant-loop-part l = l.found.items ++ filter_map as_variant (drop l.part-index l.parts) ≡ filter_map as_variant l.parts

@@ -1,7 +1,0 @@
-use Rattle.std.proofs.Common.{◌≡◌, ◌++◌, drop}
-use Rattle.std.specs.List.{filter_map}
-use Rattle.rl_forms.specs.Names.{as_name}
-use Rattle.rl_forms.proofs.names.names.Given as goal
-
-abbrev pub invariant-loop-part : goal.invariant-loop-part
-invariant-loop-part l = l.found.items ++ filter_map as_name (drop l.part-index l.parts) ≡ filter_map as_name l.parts

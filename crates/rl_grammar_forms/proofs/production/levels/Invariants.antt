@@ -1,7 +1,0 @@
-use Rattle.std.proofs.Common.{◌≡◌, ◌++◌, drop}
-use Rattle.std.specs.List.{filter_map}
-use Rattle.rl_grammar_forms.specs.Production.{as_level}
-use Rattle.rl_grammar_forms.proofs.production.levels.Given as goal
-
-abbrev pub invariant-loop-part : goal.invariant-loop-part
-invariant-loop-part l = l.found.items ++ filter_map as_level (drop l.part-index l.parts) ≡ filter_map as_level l.parts

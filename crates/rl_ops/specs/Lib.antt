@@ -1,2 +1,0 @@
-pub mod Domains
-pub mod Library
