@@ -5,6 +5,7 @@ pub mod ReadAnswer
 pub mod Told
 pub mod Faults
 pub mod MemFiles
+pub mod RecordedFiles
 pub mod MemSink
 pub mod HostFiles
 pub mod HostSink

@@ -1,11 +1,11 @@
 //! Files in memory.
 
-ghost use Rattle.std.specs.Prelude.{◌≡◌, ◌≤◌, ◌⊎◌, [], ◌∷◌, ◌++◌, Some, IsTrue, IfOk, OnOk, OnErr, IsErrOf, vec_len};
+ghost use Rattle.std.specs.Prelude.{◌≡◌, ◌≤◌, ◌↔◌, [], ◌∷◌, ◌++◌, Some, None, IsTrue, IfOk, OnOk, OnErr, IsErrOf, vec_len};
 ghost use Rattle.std.specs.FinMap as map;
 ghost use Rattle.std.specs.Bool.{OnTrue};
 ghost use Rattle.rl_base.specs.Asked.{AsksFor};
 ghost use Rattle.rl_base.specs.Faults.{Rose};
-ghost use Rattle.rl_base.specs.MemFiles.{next_fails, counted, IsAfterRead};
+ghost use Rattle.rl_base.specs.MemFiles.{next_fails, after_read};
 ghost use Rattle.rl_base.specs.ReadAnswer.{ReadAnswer};
 
 use crate::file_table::FileTable;
@@ -21,32 +21,29 @@ pub struct MemFiles {
     alloc: Global,
     files: FileTable,
     fails: Vec<u32>,
-    asked: Vec<String>,
     reads: u64,
     faults: u64,
 }
 
 impl Model for MemFiles {
-    ghost use Rattle.std.specs.Prelude.{map, string_bytes};
     ghost use Rattle.rl_base.specs.MemFiles.{FilesState, files_state_code};
 
     ghost Value = { FilesState };
 
     ghost coded = { files_state_code };
 
-    ghost view = { λ a. record { files = a.files; fails = a.fails.items; asked = map string_bytes a.asked.items; reads = a.reads; faults = a.faults } };
+    ghost view = { λ a. record { files = a.files; fails = a.fails.items; reads = a.reads; faults = a.faults } };
 }
 
 impl MemFiles {
     /// No files, and no read that fails.
     pub fn new(alloc: Global) -> MemFiles
-        ensures { result ≡ record { files = map.empty; fails = []; asked = []; reads = 0; faults = 0 } }
+        ensures { result ≡ record { files = map.empty; fails = []; reads = 0; faults = 0 } }
     {
         MemFiles {
             alloc,
             files: FileTable::new(alloc),
             fails: Vec::new(alloc),
-            asked: Vec::new(alloc),
             reads: 0,
             faults: 0,
         }
@@ -78,19 +75,9 @@ impl MemFiles {
         self.fails.iter().any(|call| u64::from(*call) == next)
     }
 
-    // Keeps the path of a read. A refusal changes nothing.
-    fn keep(&mut self, path: &str) -> Result<(), AllocError>
-        ensures ok { OnOk result (self.new ≡ record self.old { asked = self.old.asked ++ path.now ∷ [] }) }
-        ensures err { OnErr result (self.new ≡ self.old) }
-    {
-        let path = String::from_str(self.alloc, path)?;
-        self.asked.push(path)?;
-        Ok(())
-    }
-
     // Counts one more read, and a fault if it is one that fails.
     fn count_read(&mut self) -> bool
-        ensures state { self.new ≡ counted self.old }
+        ensures state { self.new ≡ after_read self.old }
         ensures fails { result ≡ next_fails self.old }
         ensures counted { self.old.faults ≤ self.new.faults }
         ensures rose { OnTrue result (Rose self.old.faults self.new.faults) }
@@ -107,27 +94,24 @@ impl MemFiles {
 impl Files for MemFiles {
     ghost holds = { λ s. Some s.files };
 
-    ghost asked = { λ s. Some s.asked };
+    ghost asked = { λ _. None };
 
     ghost faults = { λ s. s.faults };
 
-    /// Keeps the path, and answers OutOfMemory where it cannot. Else it fails exactly at the
-    /// numbers that were given to `fail_at`, whether the path is there or not, and raises the
-    /// faults at no other read.
+    /// Fails exactly at the numbers that were given to `fail_at`, whether the path is there or
+    /// not, and raises the faults at no other read.
     fn read(&mut self, alloc: Global, path: &str, limit: u32) -> Result<Vec<u8>, ReadEnd>
-        ensures state { IsAfterRead self.old path.now result self.new }
-        ensures fails_only_at { IsErrOf result ReadEnd.Failed → IsTrue (next_fails self.old) }
-        ensures fails { IsTrue (next_fails self.old) → IsErrOf result ReadEnd.Failed ⊎ IsErrOf result ReadEnd.OutOfMemory }
+        ensures state { self.new ≡ after_read self.old }
+        ensures fails { IsErrOf result ReadEnd.Failed ↔ IsTrue (next_fails self.old) }
 
         // What every reader of files promises.
         ensures held { self.new.files ≡ self.old.files }
-        ensures asked { AsksFor (Some self.old.asked) path.now result (Some self.new.asked) }
+        ensures asked { AsksFor None path.now result None }
         ensures counted { self.old.faults ≤ self.new.faults }
         ensures answer { ReadAnswer (Some self.old.files) path.now limit result }
         ensures short { IfOk result (λ bytes. vec_len bytes ≤ limit) }
         ensures failed { IsErrOf result ReadEnd.Failed → Rose self.old.faults self.new.faults }
     {
-        self.keep(path)?;
         if self.count_read() {
             return Err(ReadEnd::Failed);
         }
@@ -164,13 +148,6 @@ mod tests {
             assert!(rt; is_answer(&answer, &want), "at {path} {limit}");
         }
         assert_eq!(rt; files.faults, 2);
-        assert!(rt;
-            files
-                .asked
-                .iter()
-                .map(|path| path.as_str())
-                .eq(rows.iter().map(|row| row.0))
-        );
         Ok(())
     }
 }
