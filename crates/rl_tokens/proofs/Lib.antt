@@ -5,3 +5,4 @@ pub mod QuotedLemmas
 pub mod ScanLemmas
 pub mod TableLemmas
 pub mod WordLemmas
+pub mod KindLemmas
