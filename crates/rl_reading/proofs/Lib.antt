@@ -1,0 +1,17 @@
+pub mod Roles
+pub mod Derivations
+pub mod Rows
+pub mod Outcomes
+pub mod Tokens
+pub mod Facts
+pub mod Sections
+pub mod Modules
+pub mod SyntaxDefinitions
+pub mod Statements
+pub mod Expressions
+pub mod Patterns
+pub mod Functions
+pub mod KnownItems
+pub mod Reading
+pub mod Rules
+pub mod Whole
