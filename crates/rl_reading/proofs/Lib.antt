@@ -15,3 +15,4 @@ pub mod KnownItems
 pub mod Reading
 pub mod Rules
 pub mod Whole
+pub mod Leaves

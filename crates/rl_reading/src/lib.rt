@@ -3,4 +3,4 @@
 
 mod laws;
 
-pub use laws::no_phrase_is_unknown;
+pub use laws::{each_token_stands_once, no_phrase_is_unknown};
