@@ -6,7 +6,6 @@ use Rattle.rl_base.specs.Asked.{Asked, asked_after}
 use Rattle.rl_base.specs.Told.{Told, Grows, TakesPart}
 use Rattle.rl_base.proofs.Growth.{Grows-nil}
 use Rattle.rl_eval.specs.Evaluation.{Ran, Done, Cut, printed}
-use Rattle.rl_syntax.specs.Fault.{fault_at}
 use Rattle.rl_syntax.specs.declared.fault.Fault.{Fault}
 use Rattle.rl_main.specs.declared.status.Status.{Status}
 use Rattle.rl_main.specs.declared.status.Status.TheVariants as status

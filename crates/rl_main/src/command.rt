@@ -7,6 +7,7 @@ ghost use Rattle.rl_eval.specs.Preparation.{prepared_of};
 ghost use Rattle.rl_words.specs.Words.{asked_of, seen_asked};
 ghost use Rattle.rl_main.specs.Meaning.{meaning, meaning_of_loaded, meaning_of_prepared, meaning_of_program, paths};
 ghost use Rattle.rl_main.specs.Headline.{AsksFor, Headline, Refuses, TellsBudget};
+ghost use Rattle.rl_main.specs.Outside.{Leaves, outside};
 
 use crate::lines::{budget_line, fault_line};
 use crate::status::Status;
@@ -37,13 +38,7 @@ pub fn run<F: Files, O: Sink, E: Sink>(
     // Whatever the files tell:
     ensures usage { result ≡ Status.Usage → asked_of (map string_bytes words.now) ≡ None }
     ensures no_module { asked_of (map string_bytes words.now) ≡ None → (result ≡ Status.Usage) ⊎ ((result ≡ Status.SinkFault) ⊎ (result ≡ Status.OutOfMemory)) }
-    ensures file_fault { result ≡ Status.FileFault → Rose (F.faults files.old) (F.faults files.new) }
-    ensures sink_fault { result ≡ Status.SinkFault → Rose (O.faults out.old) (O.faults out.new) ⊎ Rose (E.faults err.old) (E.faults err.new) }
-
-    ensures held { F.holds files.new ≡ F.holds files.old }
-    ensures files_counted { F.faults files.old ≤ F.faults files.new }
-    ensures out_counted { O.faults out.old ≤ O.faults out.new }
-    ensures err_counted { E.faults err.old ≤ E.faults err.new }
+    ensures leaves { Leaves result (outside (F.holds files.old) (F.faults files.old) (O.faults out.old) (E.faults err.old)) (outside (F.holds files.new) (F.faults files.new) (O.faults out.new) (E.faults err.new)) }
 {
     match asked_of(alloc, words) {
         Err(_) => Status::OutOfMemory,
@@ -66,12 +61,7 @@ fn run_module<F: Files, O: Sink, E: Sink>(
     ensures headline { IfSome (F.holds files.old) (λ held. Headline (meaning_of_loaded asked.entry.units (load_of held asked.entry.root.now asked.entry.name.now)) result (O.told out.old) (O.told out.new) (E.told err.old) (E.told err.new)) }
     ensures asked { IfSome (F.holds files.old) (λ held. AsksFor (paths_of held asked.entry.root.now asked.entry.name.now) result (F.asked files.old) (F.asked files.new)) }
     ensures no_usage { result ≡ Status.Usage → ⊥ }
-    ensures file_fault { result ≡ Status.FileFault → Rose (F.faults files.old) (F.faults files.new) }
-    ensures sink_fault { result ≡ Status.SinkFault → Rose (O.faults out.old) (O.faults out.new) ⊎ Rose (E.faults err.old) (E.faults err.new) }
-    ensures held { F.holds files.new ≡ F.holds files.old }
-    ensures files_counted { F.faults files.old ≤ F.faults files.new }
-    ensures out_counted { O.faults out.old ≤ O.faults out.new }
-    ensures err_counted { E.faults err.old ≤ E.faults err.new }
+    ensures leaves { Leaves result (outside (F.holds files.old) (F.faults files.old) (O.faults out.old) (E.faults err.old)) (outside (F.holds files.new) (F.faults files.new) (O.faults out.new) (E.faults err.new)) }
 {
     match load(alloc, files, asked.root, asked.name) {
         Ok(modules) => run_modules(alloc, modules, asked.units, files, out, err),
@@ -107,13 +97,8 @@ fn run_modules<F: Files, O: Sink, E: Sink>(
 ) -> Status
     ensures headline { Headline (meaning_of_prepared units (prepared_of modules.list)) result (O.told out.old) (O.told out.new) (E.told err.old) (E.told err.new) }
     ensures no_usage { result ≡ Status.Usage → ⊥ }
-    ensures file_fault { result ≡ Status.FileFault → Rose (F.faults files.old) (F.faults files.new) }
-    ensures sink_fault { result ≡ Status.SinkFault → Rose (O.faults out.old) (O.faults out.new) ⊎ Rose (E.faults err.old) (E.faults err.new) }
     ensures asked { F.asked files.new ≡ F.asked files.old }
-    ensures held { F.holds files.new ≡ F.holds files.old }
-    ensures files_counted { F.faults files.old ≤ F.faults files.new }
-    ensures out_counted { O.faults out.old ≤ O.faults out.new }
-    ensures err_counted { E.faults err.old ≤ E.faults err.new }
+    ensures leaves { Leaves result (outside (F.holds files.old) (F.faults files.old) (O.faults out.old) (E.faults err.old)) (outside (F.holds files.new) (F.faults files.new) (O.faults out.new) (E.faults err.new)) }
 {
     match prepare(alloc, modules) {
         Ok(program) => run_program(alloc, program, units, files, out, err),
@@ -133,13 +118,8 @@ fn run_program<F: Files, O: Sink, E: Sink>(
 ) -> Status
     ensures headline { Headline (meaning_of_program units program) result (O.told out.old) (O.told out.new) (E.told err.old) (E.told err.new) }
     ensures no_usage { result ≡ Status.Usage → ⊥ }
-    ensures file_fault { result ≡ Status.FileFault → Rose (F.faults files.old) (F.faults files.new) }
-    ensures sink_fault { result ≡ Status.SinkFault → Rose (O.faults out.old) (O.faults out.new) ⊎ Rose (E.faults err.old) (E.faults err.new) }
     ensures asked { F.asked files.new ≡ F.asked files.old }
-    ensures held { F.holds files.new ≡ F.holds files.old }
-    ensures files_counted { F.faults files.old ≤ F.faults files.new }
-    ensures out_counted { O.faults out.old ≤ O.faults out.new }
-    ensures err_counted { E.faults err.old ≤ E.faults err.new }
+    ensures leaves { Leaves result (outside (F.holds files.old) (F.faults files.old) (O.faults out.old) (E.faults err.old)) (outside (F.holds files.new) (F.faults files.new) (O.faults out.new) (E.faults err.new)) }
 {
     let Ok(mut machine) = Machine::new(alloc, program, &[]) else {
         return Status::OutOfMemory;

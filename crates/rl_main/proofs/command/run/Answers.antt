@@ -1,5 +1,5 @@
 use Rattle.std.proofs.Common.{sym, map, string_bytes}
-use Rattle.rl_main.proofs.Ends.{usage_put, usage_failed, usage_asked, usage_failed_asked, memory_asked}
+use Rattle.rl_main.proofs.Ends.{usage_put, usage_failed, usage_asked, usage_failed_asked}
 use Rattle.rl_main.proofs.command.run.Goals as goal
 
 pub returns-in-Ok-clause-headline : goal.returns-in-Ok-clause-headline
