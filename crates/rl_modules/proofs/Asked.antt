@@ -1,5 +1,5 @@
 -- Paths that are asked for one after another.
-use Rattle.std.proofs.Common.{◌≡◌, ℕ, suc, ◌+◌, ◌<◌, List, [], ◌∷◌, ◌++◌, length, take, Some, None, refl, sym, ap, ◌∙◌, arith, append_assoc, append-nil, length-append}
+use Rattle.std.proofs.Common.{◌≡◌, ℕ, suc, ◌+◌, List, [], ◌∷◌, ◌++◌, length, take, Some, None, refl, sym, ap, arith, append_assoc, append-nil}
 use Rattle.rl_base.specs.Asked.{Asked, asked_after}
 
 pub asked_after-nil : (a : Asked) → a ≡ asked_after a []

@@ -14,11 +14,12 @@ use Rattle.rl_modules.specs.declared.loaded.LoadEnd.{LoadEnd}
 use Rattle.rl_modules.specs.declared.loaded.LoadEnd.TheVariants as end
 use Rattle.rl_modules.specs.declared.loader.Unfinished.{Unfinished}
 use Rattle.rl_modules.specs.declared.loader.Loader.{Loader}
-use Rattle.rl_modules.specs.Load.{Loading, Asks, no_modules, IsLoaded, asking, import_of, wanted, module_read, most_modules}
+use Rattle.rl_modules.specs.Load.{Loading, Asks, no_modules, IsLoaded, asking, import_of, wanted, names_of, module_read, most_modules}
 use Rattle.rl_modules.specs.Path.{path_of}
-use Rattle.rl_modules.specs.Unfinished.{rests_of, outcome_of, met_by, SkipsTo, IsSound, Opens, Finishes, PutsOff, GoesOn}
+use Rattle.rl_modules.specs.Unfinished.{rests_of, outcome_of, met_by, SkipsTo, IsSound, IsUnderWay, Opens, Finishes, PutsOff, GoesOn}
 use Rattle.rl_modules.proofs.Asked.{asked_after-nil, asked_after-append, take-behind}
-use Rattle.rl_modules.proofs.Steps.{Wants, asking-append, rests_of-finishes, rests_of-opens, rests_of-asks, rests_of-fault, rests_of-many, wanted-new}
+use Rattle.rl_modules.proofs.Steps.{Wants, asking-append, rests_of-finishes, rests_of-opens, rests_of-asks, rests_of-fault, rests_of-many, wanted_at-new}
+use Rattle.rl_modules.proofs.UnderWay.{opens, finishes}
 
 abbrev as_loading : Result Module Fault → Result Modules Fault
 as_loading (Ok it) = Ok no_modules
@@ -123,11 +124,24 @@ goes-many (Some held) root a old after one ds path number place name i end.OutOf
 
 -- what is wanted was not met
 pub found-new : (old : Loader) (one : Unfinished) (ds : List Decl) (path : List ℕ) (number : ℕ) (place : Place) (name : List ℕ) (i : ℕ) → Finds old one ds path number place name i → list_any (bytes_eq name) old.names ≡ false
-found-new old one ds path number place name i f = new ds i f.within f.found where
-  new : (ds : List Decl) (i : ℕ) → i < length ds → IfSome (slice_get ds i) (λ d. wanted old.names (import_of d) ≡ Some (place, name)) → list_any (bytes_eq name) old.names ≡ false
-  new [] i within h = absurd (omega arith)
-  new (d ∷ ds) zero within h = wanted-new old.names (import_of d) (place, name) h
-  new (d ∷ ds) (suc i) within h = new ds i (omega arith) h
+found-new old one ds path number place name i f = wanted_at-new old.names ds i (place, name) f.within f.found
+
+-- What is under way stays so.
+
+-- a module is finished
+pub keeps-finished : (old new : Loader) (one : Unfinished) → IsSound old → IsUnderWay old.list.items old.finished.items (old.unfinished.items ++ one ∷ []) → SkipsTo old.names one.declarations one.next (length one.declarations) → Finishes one.number old new
+    → IsUnderWay new.list.items new.finished.items new.unfinished.items
+keeps-finished old new one sound u h f = rw (f.list, f.finished, f.unfinished) (finishes old.list.items old.finished.items old.unfinished.items one u (rw sound.named at h))
+
+-- a module is opened
+pub keeps-opened : (old mid new : Loader) (one : Unfinished) (ds : List Decl) (path : List ℕ) (number : ℕ) (place : Place) (name : List ℕ) (i : ℕ) (it : Module) → Finds old one ds path number place name i
+    → IsUnderWay old.list.items old.finished.items (old.unfinished.items ++ one ∷ []) → it.name ≡ name → it.place.«module» ≡ number
+    → PutsOff (record one { next = i + 1 }) old mid → Opens it mid new
+    → IsUnderWay new.list.items new.finished.items new.unfinished.items
+keeps-opened old mid new one ds path number place name i it f u named numbered p o =
+    let fresh : list_any (bytes_eq it.name) (names_of old.list.items) ≡ false = rw (named, ← f.sound.named) (found-new old one ds path number place name i f) in
+    rw (o.list, o.finished, o.unfinished, p.list, p.finished, p.unfinished)
+    (opens old.list.items old.finished.items old.unfinished.items one it (place, name) i u (rw (f.declarations, f.sound.named) at f.skips) (rw (f.declarations, f.sound.named) at f.found) named (numbered ∙ f.number_is) fresh)
 
 -- One step after another.
 

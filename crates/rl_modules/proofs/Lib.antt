@@ -1,5 +1,6 @@
 pub mod Asked
 pub mod Keys
+pub mod UnderWay
 pub mod Steps
 pub mod Goes
 pub mod Whole

@@ -197,6 +197,11 @@ wanted-new names (Some f) found h =
     let p = picked (is_built_in f.1) (list_any (bytes_eq f.1) names) f found h in
     rw (← p.1) p.0
 
+pub wanted_at-new : (names : List (List ℕ)) (ds : List Decl) (i : ℕ) (found : Place × List ℕ) → i < length ds → IfSome (slice_get ds i) (λ d. wanted names (import_of d) ≡ Some found) → list_any (bytes_eq found.1) names ≡ false
+wanted_at-new names [] i found within h = absurd (omega arith)
+wanted_at-new names (d ∷ ds) zero found within h = wanted-new names (import_of d) found h
+wanted_at-new names (d ∷ ds) (suc i) found within h = wanted_at-new names ds i found (omega arith) h
+
 -- from the root on
 pub load_of-asks : (files : FileMap) (root name : List ℕ) → (more : List (List ℕ)) × ((loading_of files root name).asked ≡ path_of root name ∷ more)
 load_of-asks files root name = load_within-asks 999 files root (path_of root name, start) name no_modules (lit< tt)

@@ -1,10 +1,9 @@
 -- Loading from its first module to its end.
-use Rattle.std.proofs.Common.{◌≡◌, ℕ, ◌<◌, List, [], ◌∷◌, ◌++◌, length, Some, None, Result, Ok, Err, IfSome, IsErrAnd, refl, sym, subst, ap, ◌∙◌, append-nil, arith}
+use Rattle.std.proofs.Common.{◌≡◌, ℕ, List, [], ◌∷◌, length, Some, None, Result, Ok, Err, IfSome, IsErrAnd, refl, sym, subst, ap, ◌∙◌, append-nil, arith}
 use Rattle.std.proofs.lemmas.List.{take_all}
 use Rattle.rl_base.specs.Asked.{Asked, asked_after}
 use Rattle.rl_base.specs.Holds.{FileMap, Holds}
 use Rattle.rl_syntax.specs.Fault.{start}
-use Rattle.rl_syntax.specs.declared.fault.Fault.{Fault}
 use Rattle.rl_syntax.specs.declared.module.Module.{Module}
 use Rattle.rl_syntax.specs.declared.module.Modules.{Modules}
 use Rattle.rl_modules.specs.declared.loaded.LoadEnd.{LoadEnd}
@@ -12,9 +11,10 @@ use Rattle.rl_modules.specs.declared.loaded.LoadEnd.TheVariants as end
 use Rattle.rl_modules.specs.declared.loader.Loader.{Loader}
 use Rattle.rl_modules.specs.Load.{Loading, Asks, IsLoaded, asking, gives, module_read, loading_of}
 use Rattle.rl_modules.specs.Path.{path_of}
-use Rattle.rl_modules.specs.Unfinished.{rests_of, outcome_of, met_by, Opens, GoesOn}
+use Rattle.rl_modules.specs.Unfinished.{rests_of, outcome_of, met_by, IsUnderWay, Opens, GoesOn}
 use Rattle.rl_modules.proofs.Goes.{asks-first, goes-then}
 use Rattle.rl_modules.proofs.Steps.{load_of-opens, load_of-fault, load_of-asks}
+use Rattle.rl_modules.proofs.UnderWay.{starts}
 
 -- nothing was loaded
 pub record IsNew (loader : Loader) : Type 0 where
@@ -23,6 +23,9 @@ pub record IsNew (loader : Loader) : Type 0 where
   pub unfinished : loader.unfinished.items ≡ []
 
 -- the first module is opened
+pub keeps-first : (it : Module) (new added : Loader) → IsNew new → Opens it new added → it.place.«module» ≡ 0 → IsUnderWay added.list.items added.finished.items added.unfinished.items
+keeps-first it new added n o h = rw (o.list, o.finished, o.unfinished, n.list, n.finished, n.unfinished) (starts it h)
+
 load_of-opened : (files : FileMap) (root name : List ℕ) (it : Module) (new added : Loader) → IsNew new → Opens it new added → (module_read files root (path_of root name, start) 0 name).outcome ≡ Ok it
     → loading_of files root name ≡ asking (path_of root name ∷ []) (outcome_of files root added)
 load_of-opened files root name it new added n o h = rw (o.unfinished, o.list, o.finished, n.list, n.finished, n.unfinished) (load_of-opens files root name it h)

@@ -1,3 +1,4 @@
 pub mod Path
 pub mod Load
+pub mod Complete
 pub mod Unfinished

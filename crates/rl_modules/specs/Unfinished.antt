@@ -1,6 +1,6 @@
 -- What is left to do while modules are loaded.
-use Rattle.std.specs.Prelude.{◌≡◌, ℕ, ◌+◌, ◌-◌, ◌<◌, ◌≤◌, List, [], ◌∷◌, ◌++◌, length, drop, None, Result, Ok, Err, IfSome}
-use Rattle.std.specs.List.{slice_get}
+use Rattle.std.specs.Prelude.{◌≡◌, ◌≢◌, ℕ, ◌-◌, ◌<◌, ◌≤◌, List, [], ◌∷◌, ◌++◌, length, drop, map, Some, None, Result, Ok, Err, IfSome}
+use Rattle.std.specs.List.{All, AllPairs, slice_get}
 use Rattle.rl_base.specs.Asked.{Asked, asked_after}
 use Rattle.rl_base.specs.Holds.{FileMap}
 use Rattle.rl_syntax.specs.declared.module.Module.{Module}
@@ -9,6 +9,7 @@ use Rattle.rl_syntax.specs.declared.declaration.Decl.{Decl}
 use Rattle.rl_modules.specs.declared.loaded.LoadEnd.{LoadEnd}
 use Rattle.rl_modules.specs.declared.loader.Unfinished.{Unfinished}
 use Rattle.rl_modules.specs.declared.loader.Loader.{Loader}
+use Rattle.rl_modules.specs.Complete.{EachOnce}
 use Rattle.rl_modules.specs.Load.{Loading, Asks, IsLoaded, asking, gives, and_then, in_turn, import_of, wanted, names_of, load_import, load_within, with_finished, most_modules}
 
 -- the rest of a module: its further imports, and then it is finished
@@ -42,6 +43,23 @@ pub record IsSound (loader : Loader) : Type 0 where
   pub named : loader.names ≡ names_of loader.list.items
   pub few : length loader.list.items ≤ most_modules
   pub nested : length loader.unfinished.items ≤ length loader.list.items
+
+-- all that the module of this number imports was met
+abbrev pub ImportsAreMet : List Module → (number : ℕ) → Type 0
+ImportsAreMet list number = (it : Module) × (slice_get list number ≡ Some it) × SkipsTo (names_of list) it.declarations 0 (length it.declarations)
+
+-- a module of the list is not finished, and all that it imports before its next declaration was met
+abbrev pub IsBegun : List Module → Unfinished → Type 0
+IsBegun list one = (it : Module) × (slice_get list one.number ≡ Some it) × (it.declarations ≡ one.declarations) × SkipsTo (names_of list) one.declarations 0 one.next
+
+-- these modules were met, with names of their own and each at its number, and each of them is finished or one of those that are not, once
+pub record IsUnderWay (list : List Module) (finished : List ℕ) (unfinished : List Unfinished) : Type 0 where
+  pub some : 1 ≤ length list
+  pub distinct : AllPairs (λ a b. a ≢ b) (names_of list)
+  pub numbered : (k : ℕ) → IfSome (slice_get list k) (λ it. it.place.«module» ≡ k)
+  pub once : EachOnce (length list) (finished ++ map (λ one. one.number) unfinished)
+  pub met : All (ImportsAreMet list) finished
+  pub begun : All (IsBegun list) unfinished
 
 -- a module was added
 pub record Opens (it : Module) (old new : Loader) : Type 0 where

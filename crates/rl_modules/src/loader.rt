@@ -5,7 +5,7 @@ ghost use Rattle.std.specs.List.{list_any};
 ghost use Rattle.std.specs.Str.{bytes_eq};
 ghost use Rattle.rl_base.specs.Faults.{Rose};
 ghost use Rattle.rl_modules.specs.Load.{most_modules};
-ghost use Rattle.rl_modules.specs.Unfinished.{rests_of, outcome_of, met_by, IsSound, Opens, Finishes, PutsOff, GoesOn};
+ghost use Rattle.rl_modules.specs.Unfinished.{rests_of, outcome_of, met_by, IsSound, IsUnderWay, Opens, Finishes, PutsOff, GoesOn};
 
 use crate::import::next_wanted;
 use crate::loaded::LoadEnd;
@@ -103,8 +103,10 @@ impl Loader {
     ) -> Result<(), LoadEnd>
         requires sound { IsSound self.old }
         requires nested { length self.old.unfinished.items < length self.old.list.items }
+        requires under_way { IsUnderWay self.old.list.items self.old.finished.items (self.old.unfinished.items ++ unfinished ∷ []) }
         ensures answer { IfSome (F.holds files.old) (λ held. GoesOn (rests_of (most_modules - 1) held root.now (self.old.unfinished.items ++ unfinished ∷ []) (met_by self.old)) (F.asked files.old) result (F.asked files.new) (outcome_of held root.now self.new)) }
         ensures sound { OnOk result (IsSound self.new) }
+        ensures under_way { OnOk result (IsUnderWay self.new.list.items self.new.finished.items self.new.unfinished.items) }
         ensures smaller { OnOk result (2 * (most_modules - length self.new.list.items) + length self.new.unfinished.items < 2 * (most_modules - length self.old.list.items) + length self.old.unfinished.items + 1) }
         ensures file_fault { IsErrOf result LoadEnd.FileFault → Rose (F.faults files.old) (F.faults files.new) }
         ensures held { F.holds files.new ≡ F.holds files.old }
@@ -144,9 +146,12 @@ impl Loader {
 
     // Goes on until all modules are finished.
     pub fn run<F: Files>(&mut self, files: &mut F, root: &str) -> Result<(), LoadEnd>
-        requires { IsSound self.old }
+        requires sound { IsSound self.old }
+        requires under_way { IsUnderWay self.old.list.items self.old.finished.items self.old.unfinished.items }
         ensures answer { IfSome (F.holds files.old) (λ held. GoesOn (outcome_of held root.now self.old) (F.asked files.old) result (F.asked files.new) (outcome_of held root.now self.new)) }
         ensures all { OnOk result (self.new.unfinished.items ≡ []) }
+        ensures sound { OnOk result (IsSound self.new) }
+        ensures under_way { OnOk result (IsUnderWay self.new.list.items self.new.finished.items self.new.unfinished.items) }
         ensures file_fault { IsErrOf result LoadEnd.FileFault → Rose (F.faults files.old) (F.faults files.new) }
         ensures held { F.holds files.new ≡ F.holds files.old }
         ensures counted { F.faults files.old ≤ F.faults files.new }

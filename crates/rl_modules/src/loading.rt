@@ -2,6 +2,7 @@
 
 ghost use Rattle.std.specs.Prelude.{◌≡◌, ◌≤◌, IfOk, IfSome, IsErrOf, string_bytes};
 ghost use Rattle.rl_base.specs.Faults.{Rose};
+ghost use Rattle.rl_modules.specs.Complete.{IsComplete};
 ghost use Rattle.rl_modules.specs.Load.{Asks, IsLoaded, load_of, paths_of};
 
 use crate::loaded::LoadEnd;
@@ -37,6 +38,7 @@ pub fn load<F: Files>(
 ) -> Result<Modules, LoadEnd>
     ensures answer { IfSome (F.holds files.old) (λ held. IsLoaded (load_of held root.now name.now) result) }
     ensures asked { IfSome (F.holds files.old) (λ held. Asks (paths_of held root.now name.now) (F.asked files.old) result (F.asked files.new)) }
+    ensures complete { IfOk result IsComplete }
     ensures file_fault { IsErrOf result LoadEnd.FileFault → Rose (F.faults files.old) (F.faults files.new) }
     ensures held { F.holds files.new ≡ F.holds files.old }
     ensures counted { F.faults files.old ≤ F.faults files.new }

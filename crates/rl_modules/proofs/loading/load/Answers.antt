@@ -1,6 +1,7 @@
 use Rattle.std.proofs.Common.{Ok, Err, refl, ◌∙◌}
 use Rattle.rl_modules.specs.declared.loaded.LoadEnd.TheVariants.{OutOfMemory}
-use Rattle.rl_modules.proofs.Whole.{first-memory, first-fault, later, later-memory, answer_of, asked_of, memory_asked, all-loaded, all-asked}
+use Rattle.rl_modules.proofs.Whole.{first-memory, first-fault, later, later-memory, answer_of, asked_of, memory_asked, all-loaded, all-asked, keeps-first}
+use Rattle.rl_modules.proofs.UnderWay.{completes}
 use Rattle.rl_modules.proofs.loading.load.Goals as goal
 
 pub returns-in-Err-clause-answer : goal.returns-in-Err-clause-answer
@@ -70,3 +71,14 @@ returns-clause-asked g c =
     (c.as_str.ensures.value ∙ c.in_ok-path.ensures)
     (record { list = c.new-loader.ensures.list; finished = c.new-loader.ensures.finished; unfinished = c.new-loader.ensures.unfinished })
     c.in_ok-add-in-Ok.ensures c.in-Ok.ensures.answer c.in-Ok.ensures.asked (rw c.in-Ok.ensures.held at c.in-Ok-run.ensures.answer))
+
+pub run-requires-clause-under_way : goal.run-requires-clause-under_way
+run-requires-clause-under_way g c =
+    keeps-first c.in-Ok.module c.new-loader.result c.add.new.self
+    (record { list = c.new-loader.ensures.list; finished = c.new-loader.ensures.finished; unfinished = c.new-loader.ensures.unfinished })
+    c.in_ok-add-in-Ok.ensures c.in-Ok.ensures.numbered
+
+pub returns-clause-complete : goal.returns-clause-complete
+returns-clause-complete g c =
+    completes c.run.new.self.list.items c.in_ok-from_vec.field-0 c.run.new.self.finished.items c.in_ok-from_vec-2.field-0 c.run.new.self.unfinished.items
+    c.in-Ok-run.ensures.under_way c.in-Ok-run.ensures.all c.in-Ok-run.ensures.sound.few c.in_ok-from_vec.ensures c.in_ok-from_vec-2.ensures

@@ -1,5 +1,5 @@
 use Rattle.std.proofs.Common.{rules}
-use Rattle.rl_modules.proofs.Goes.{goes-finished, goes-opened, goes-fault, goes-many, goes-memory, found-new}
+use Rattle.rl_modules.proofs.Goes.{goes-finished, goes-opened, goes-fault, goes-many, goes-memory, found-new, keeps-finished, keeps-opened}
 use Rattle.rl_modules.specs.Unfinished.{outcome_of}
 use Rattle.rl_modules.proofs.loader.Loader.go_on.Goals as goal
 
@@ -103,3 +103,24 @@ returns-in_err-add-in-Some-clause-answer g c =
       nested = c.requires.nested;
     })
     c.if-number-ge-MOST_MODULES.false c.in-Ok.ensures.asked
+
+pub returns-in_ok-finish-in-None-clause-under_way : goal.returns-in_ok-finish-in-None-clause-under_way
+returns-in_ok-finish-in-None-clause-under_way g c =
+    keeps-finished c.args.self.now c.finish.new.self c.args.unfinished c.requires.sound c.requires.under_way
+    (rw c.as_slice-declarations.ensures at c.in-None.ensures.none) c.in_ok-finish-in-None.ensures
+
+pub returns-in_ok-add-in-Some-clause-under_way : goal.returns-in_ok-add-in-Some-clause-under_way
+returns-in_ok-add-in-Some-clause-under_way g c =
+    keeps-opened c.args.self.now c.put_off.new.self c.add.new.self c.args.unfinished c.as_slice-declarations.result.now c.as_str-path.result.now c.len-number.result c.in-Some.import.place c.in-Some.import.name.now c.in-Some.index c.in-Ok.module
+    (record {
+      sound = c.requires.sound;
+      declarations = c.as_slice-declarations.ensures;
+      path_is = c.as_str-path.ensures;
+      number_is = search rules;
+      skips = c.in-Some.ensures.none;
+      behind = c.in-Some.ensures.some.0;
+      within = c.in-Some.ensures.within;
+      found = c.in-Some.ensures.some.1;
+      nested = c.requires.nested;
+    })
+    c.requires.under_way c.in-Ok.ensures.named c.in-Ok.ensures.numbered c.in_ok-put_off-in-Some.ensures c.in_ok-add-in-Some.ensures
