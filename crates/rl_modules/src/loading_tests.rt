@@ -1,8 +1,11 @@
 //! Loading over files in memory.
 
+ghost use Rattle.std.specs.Prelude.{◌≡◌, ◌++◌, OnOk};
+ghost use Rattle.rl_modules.specs.Load.{paths_of};
+
 use crate::loaded::LoadEnd;
 use crate::loading::load;
-use rl_base::MemFiles;
+use rl_base::{MemFiles, RecordedFiles};
 use rl_syntax::Modules;
 use std::alloc::Global;
 use std::test::Fail;
@@ -13,6 +16,18 @@ fn files(alloc: Global, entries: &[(&str, &str)]) -> Result<MemFiles, Fail> {
         files.add(path, text.as_bytes())?;
     }
     Ok(files)
+}
+
+// Loads over files that keep the paths of their reads.
+fn load_recorded(
+    alloc: Global,
+    files: &mut RecordedFiles<MemFiles>,
+    root: &str,
+    name: &str,
+) -> Result<Modules, LoadEnd>
+    ensures { OnOk result (files.new.paths ≡ files.old.paths ++ paths_of files.old.files.files root.now name.now) }
+{
+    load(alloc, files, root, name)
 }
 
 // The names of modules by number, and the numbers in the order in which they were finished.
@@ -64,11 +79,28 @@ fn each_module_is_loaded_once_and_depth_first(rt: HostRuntime) -> Result<(), Fai
         ),
     ];
     for (entries, root, name, names, finished) in rows {
-        let mut files = files(rt.alloc(), entries)?;
-        match load(rt.alloc(), &mut files, root, name) {
+        let mut files = RecordedFiles::new(rt.alloc(), files(rt.alloc(), entries)?);
+        match load_recorded(rt.alloc(), &mut files, root, name) {
             Ok(modules) => assert!(rt; is_loaded(&modules, names, finished), "{names:?}"),
             Err(_) => return Err("not loaded".into()),
         }
+    }
+    Ok(())
+}
+
+#[test]
+fn each_module_is_read_once(rt: HostRuntime) -> Result<(), Fail> {
+    let entries = [
+        ("Main.rsc", "module Main import B; import IO; import B;"),
+        ("B.rsc", "module B extend C; import Main;"),
+        ("C.rsc", "module C import B;"),
+    ];
+    for (call, is_read) in [(1, true), (2, true), (3, true), (4, false)] {
+        let mut files = files(rt.alloc(), &entries)?;
+        files.fail_at(call)?;
+        let end = load(rt.alloc(), &mut files, "", "Main");
+        let is_failed = matches!(end, Err(LoadEnd::FileFault));
+        assert_eq!(rt; is_failed, is_read, "{call}");
     }
     Ok(())
 }
