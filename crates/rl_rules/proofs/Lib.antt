@@ -8,3 +8,4 @@ pub mod After
 pub mod Visited
 pub mod Runs
 pub mod Nests
+pub mod Scopes

@@ -1,22 +1,27 @@
 -- What holds of all evaluations.
-use Rattle.std.specs.Prelude.{◌≡◌, ℕ, suc, ◌+◌, ◌≤◌, ⊤, Bool, false, List, ◌∷◌, ◌++◌, Some, None}
+use Rattle.std.specs.Prelude.{◌≡◌, ℕ, suc, ◌+◌, ◌≤◌, ◌<◌, ⊤, Bool, false, List, length, [], ◌∷◌, ◌++◌, All, Some, None}
+use Rattle.std.specs.FinMap.{FinMap, empty, get, insert, entries}
+use Rattle.std.specs.Ordering.{nat_cmp}
 use Rattle.rl_base.specs.Holds.{FileMap}
-use Rattle.rl_match.specs.Bindings.{Binding}
+use Rattle.rl_match.specs.Bindings.{Binding, value_in}
 use Rattle.rl_syntax.specs.declared.statement.Handler.{Handler}
 use Rattle.rl_syntax.specs.declared.statement.Stat.{Stat}
 use Rattle.rl_syntax.specs.declared.expression.Exp.{Exp, out-Exp}
 use Rattle.rl_syntax.specs.declared.pattern.Pattern.{Pattern}
+use Rattle.rl_syntax.specs.declared.module.Module.{Module}
 use Rattle.rl_value.specs.Plain.{Plain}
+use Rattle.rl_visibility.specs.Visible.{own_within, own}
 use Rattle.rl_rules.specs.Conditions.{conditions_in, taken_apart, members_of, enumerated}
-use Rattle.rl_rules.specs.Evaluation.{Evaluation, Ran, Done, Cut, Stuck, Reading, on_done, run_as, eval_as, printed}
+use Rattle.rl_rules.specs.Evaluation.{Evaluation, Ran, Done, Cut, Stuck, Reading, on_done, run_as, run_by, eval_as, eval, printed}
 use Rattle.rl_rules.specs.Exceptions.{try}
-use Rattle.rl_rules.specs.Form.{Form, statement, Turn, turn}
+use Rattle.rl_rules.specs.Form.{Form, expression, statement, alternative, node, Turn, turn, while, do_while, solve, visit}
+use Rattle.rl_rules.specs.Fronts.{Fronts, behind, fronts_by, fronts}
 use Rattle.rl_rules.specs.Members.{members}
 use Rattle.rl_rules.specs.Parts.{bare, inside}
 use Rattle.rl_rules.specs.Program.{Program}
-use Rattle.rl_rules.specs.Rule.{Outcome, Val, Miss, Fail, Rule}
+use Rattle.rl_rules.specs.Rule.{Outcome, Val, Miss, Fail, Kept, Stop, Rule, after}
 use Rattle.rl_rules.specs.Rules.{entered}
-use Rattle.rl_rules.specs.State.{State, declare_all, open_scope, close_scope}
+use Rattle.rl_rules.specs.State.{State, value_of, with_value, read, in_reach, declare_all, open_scope, close_scope}
 
 -- every form but a turn takes a unit
 abbrev pub TakesUnit : Form → Type 0
@@ -56,6 +61,18 @@ BareIsByForm = (x : Exp) → bare x ≡ inside x bare (out-Exp x)
 -- the conditions of an expression are by its form, and by those of the expressions in it
 abbrev pub ConditionsAreByForm : Type 0
 ConditionsAreByForm = (x : Exp) → conditions_in x ≡ taken_apart x conditions_in (out-Exp x)
+
+-- Scopes.
+
+-- The entries of a finite map of the library are variables: they have what the map has, and setting one sets it in the map. So no two states differ by the order of writes.
+pub record AreFiniteMaps : Type 0 where
+  pub none : entries (empty {X = Plain} {R = nat_cmp}) ≡ []
+  pub has : (scope : FinMap nat_cmp Plain) (x : ℕ) → value_of x (entries scope) ≡ get scope x
+  pub set : (scope : FinMap nat_cmp Plain) (x : ℕ) (v : Plain) → with_value x v (entries scope) ≡ entries (insert scope x v)
+
+-- what patterns see of a variable from outside is the value that it has
+abbrev pub PatternsSeeVariables : Type 0
+PatternsSeeVariables = (x : ℕ) (s : State) → value_in x (in_reach s) ≡ read x s
 
 -- Members.
 

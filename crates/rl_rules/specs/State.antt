@@ -1,19 +1,20 @@
 -- The state of a program that runs, but for what it printed.
-use Rattle.std.specs.Prelude.{ℕ, nat_eq, if◌then◌else◌, Bool, true, false, List, [], ◌∷◌, ◌++◌, Option, Some, None, is_some}
+use Rattle.std.specs.Prelude.{ℕ, if◌then◌else◌, Bool, true, false, List, [], ◌∷◌, ◌++◌, Option, Some, None, is_some}
+use Rattle.std.specs.FinMap.{find, put}
+use Rattle.std.specs.Ordering.{nat_cmp}
 use Rattle.rl_value.specs.Plain.{Plain}
+use Rattle.rl_match.specs.Bindings.{Binding}
 
--- finite maps from the numbers of variables to their values
+-- finite maps from the numbers of variables to their values, as their entries in the order of the numbers
 abbrev pub Variables : Type 0
 Variables = List (ℕ × Plain)
 
 abbrev pub value_of : ℕ → Variables → Option Plain
-value_of x [] = None
-value_of x ((y, v) ∷ vs) = if nat_eq x y then Some v else value_of x vs
+value_of x vs = find nat_cmp x vs
 
--- with the variable at a value: in its place, or as the last
+-- with the variable at a value, in its place
 abbrev pub with_value : ℕ → Plain → Variables → Variables
-with_value x v [] = (x, v) ∷ []
-with_value x v ((y, u) ∷ vs) = if nat_eq x y then (x, v) ∷ vs else (y, u) ∷ with_value x v vs
+with_value x v vs = put nat_cmp x v vs
 
 pub record State : Type 0 where
   pub globals : Variables
@@ -43,16 +44,16 @@ abbrev pub read : ℕ → State → Option Plain
 read x s = first_of (value_in_scopes x s.scopes) (value_of x s.globals)
 
 -- all variables that are in reach, an inner one before an outer one of its number
-abbrev pub joined_scopes : List Variables → Variables
+abbrev pub joined_scopes : List Variables → List (ℕ × Plain)
 joined_scopes [] = []
 joined_scopes (scope ∷ scopes) = scope ++ joined_scopes scopes
 
-abbrev pub in_reach : State → Variables
+abbrev pub in_reach : State → List (ℕ × Plain)
 in_reach s = joined_scopes s.scopes ++ s.globals
 
--- sets it in the innermost scope
+-- sets it in the innermost scope; there is one, since each call begins with one
 abbrev pub declared_in : ℕ → Plain → List Variables → List Variables
-declared_in x v [] = ((x, v) ∷ []) ∷ []
+declared_in x v [] = []
 declared_in x v (scope ∷ scopes) = with_value x v scope ∷ scopes
 
 abbrev pub declare : ℕ → Plain → State → State
@@ -75,7 +76,7 @@ write true x v s = set_global x v s
 write false x v s = if is_some (value_in_scopes x s.scopes) then write_in_scopes x v s else declare x v s
 
 -- the variables of a binding, in its order
-abbrev pub declare_all : Variables → State → State
+abbrev pub declare_all : Binding → State → State
 declare_all [] s = s
 declare_all ((x, v) ∷ vs) s = declare_all vs (declare x v s)
 
@@ -99,7 +100,7 @@ enter_call acting s = record s { scopes = [] ∷ []; acting = acting }
 abbrev pub leave_call : State → State → State
 leave_call caller s = record s { scopes = caller.scopes; acting = caller.acting }
 
--- Piles and `it`. What is taken from none is empty.
+-- Piles and `it`. What is taken from none is empty, but there is one wherever a rule takes or adds: each comprehension, loop and reducer begins with one, and ends it.
 
 abbrev pub below_top : {A : Type 0} → List A → List A
 below_top [] = []

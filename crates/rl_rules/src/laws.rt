@@ -4,7 +4,7 @@ ghost use Rattle.std.specs.Prelude.{ℕ, ◌+◌, List};
 ghost use Rattle.rl_base.specs.Holds.{FileMap};
 ghost use Rattle.rl_rules.specs.Evaluation.{Evaluation, Reading, eval_as, printed};
 ghost use Rattle.rl_rules.specs.Form.{Form};
-ghost use Rattle.rl_rules.specs.Laws.{IsByRules, Leaves, GoesOnFrom, More, AbandonedIsTakenBack, MissLeavesState, MatchLeavesState, BareIsByForm, ConditionsAreByForm, EnumerationLeavesState, FinallyIsUsedOnce};
+ghost use Rattle.rl_rules.specs.Laws.{AreFiniteMaps, PatternsSeeVariables, IsByRules, Leaves, GoesOnFrom, More, AbandonedIsTakenBack, MissLeavesState, MatchLeavesState, BareIsByForm, ConditionsAreByForm, EnumerationLeavesState, FinallyIsUsedOnce};
 ghost use Rattle.rl_rules.specs.Program.{Program};
 ghost use Rattle.rl_rules.specs.Rule.{Rule};
 ghost use Rattle.rl_rules.specs.Run.{derivation_as};
@@ -52,4 +52,10 @@ pub fn finally_is_used_once()
 pub fn parentheses_count_for_nothing()
     ensures parts { BareIsByForm }
     ensures conditions { ConditionsAreByForm }
+{}
+
+/// Scopes and globals are finite maps, and patterns see the values that variables have.
+pub fn scopes_are_finite_maps()
+    ensures maps { AreFiniteMaps }
+    ensures patterns { PatternsSeeVariables }
 {}
