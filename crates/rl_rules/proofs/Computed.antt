@@ -1,7 +1,7 @@
 -- The examples compute.
 use Rattle.std.proofs.Common.{refl}
 use Rattle.rl_base.specs.Holds.{FileMap}
-use Rattle.rl_rules.specs.Examples.{OneLine, FinallyAfterReturn, FinallyThrows, Counting, WithoutValue, OutOfRange, FallingBack, LeavingLoop, Handled, FinallyAtACut, NextAlternative, FalseCondition, ThreeElements, Reducing, TakenBack, FixedAtStart, Divided, FalseUnderMember, OtherAlternative, TestWithoutValue, SecondHandler, DeepestCall, Parsing, Collecting, Exchanging, ChangingInside, JoinedConditions, UnderConditions, Solving, Extending}
+use Rattle.rl_rules.specs.Examples.{OneLine, FinallyAfterReturn, FinallyThrows, Counting, WithoutValue, OutOfRange, FallingBack, LeavingLoop, Handled, FinallyAtACut, NextAlternative, FalseCondition, ThreeElements, Reducing, TakenBack, FixedAtStart, Divided, FalseUnderMember, OtherAlternative, TestWithoutValue, SecondHandler, DeepestCall, Parsing, Collecting, Exchanging, ChangingInside, JoinedConditions, UnderConditions, Solving, Extending, Testing}
 use Rattle.rl_rules.proofs.Computing.{computing}
 
 pub one_line : (files : FileMap) → OneLine files
@@ -123,3 +123,7 @@ solving files = refl
 pub extending : (files : FileMap) → Extending files
 unfolding computing
 extending files = refl
+
+pub testing : (files : FileMap) → Testing files
+unfolding computing
+testing files = (refl, refl)

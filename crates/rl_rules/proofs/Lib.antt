@@ -8,4 +8,8 @@ pub mod After
 pub mod Visited
 pub mod Runs
 pub mod Nests
+pub mod Fronts
 pub mod Scopes
+pub mod Ends
+pub mod Numbered
+pub mod OwnModules

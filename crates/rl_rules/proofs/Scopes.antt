@@ -1,13 +1,13 @@
 -- Scopes are finite maps, and patterns see what is in them.
 use Rattle.std.proofs.Common.{◌≡◌, ℕ, length, Bool, true, false, cond, List, [], ◌∷◌, ◌++◌, Option, Some, None, refl, sym, ◌∙◌, ap, arith, append_assoc}
-use Rattle.std.specs.Bool.{nat_eq, nat_lt, ◌==◌}
-use Rattle.std.specs.FinMap.{FinMap, empty, get, insert, entries, find, len, len-empty, len-entries, get-entries, entries-insert}
+use Rattle.std.specs.Bool.{nat_eq}
+use Rattle.std.specs.FinMap.{empty, entries, len-empty, len-entries, get-entries, entries-insert}
 use Rattle.std.specs.Ordering.{nat_cmp, eq_by_cmp}
 use Rattle.std.specs.Cmp.{nat_cmp_total}
 use Rattle.rl_match.specs.Bindings.{value_in}
 use Rattle.rl_value.specs.Plain.{Plain}
 use Rattle.rl_rules.specs.Laws.{AreFiniteMaps, PatternsSeeVariables}
-use Rattle.rl_rules.specs.State.{Variables, value_of, value_in_scopes, first_of, joined_scopes, in_reach, read, State}
+use Rattle.rl_rules.specs.State.{Variables, value_of, value_in_scopes, first_of, joined_scopes}
 
 nothing_in : (es : List (ℕ × Plain)) → length es ≡ 0 → es ≡ []
 nothing_in [] h = refl

@@ -46,7 +46,7 @@ entering-leaves (statement x) n t go h = with_unit-leaves n t go h
 entering-leaves (alternative a vs) n t go h = with_unit-leaves n t go h
 entering-leaves (node cs v) n t go h = with_unit-leaves n t go h
 
-within-leaves : (w : Reading) (p : Program) (files : FileMap) (k : ℕ) → NeverGains (eval_within w p files k)
+pub within-leaves : (w : Reading) (p : Program) (files : FileMap) (k : ℕ) → NeverGains (eval_within w p files k)
 unfolding eval_within
 within-leaves w p files zero f d s n t = tt
 within-leaves w p files (suc k) f d s n t =
@@ -113,7 +113,7 @@ entering-form (statement x) h n t go = refl
 entering-form (alternative a vs) h n t go = refl
 entering-form (node cs v) h n t go = refl
 
-within-spends : (w : Reading) (p : Program) (files : FileMap) (k : ℕ) → FormsSpend (eval_within w p files k)
+pub within-spends : (w : Reading) (p : Program) (files : FileMap) (k : ℕ) → FormsSpend (eval_within w p files k)
 unfolding eval_within
 within-spends w p files zero f h d s n t = tt
 within-spends w p files (suc k) f h d s n t =
@@ -125,7 +125,7 @@ on_done-same_less n (Done r s m t) go go' l h = h r s m t l
 on_done-same_less n (Cut t) go go' l h = refl
 on_done-same_less n (Stuck t) go go' l h = refl
 
-alike-below : (a b : Evaluation) (n m : ℕ) → suc m ≤ n → AlikeBelow n a b → Alike m a b
+pub alike-below : (a b : Evaluation) (n m : ℕ) → suc m ≤ n → AlikeBelow n a b → Alike m a b
 alike-below a b n m l h f d s k t l' = h f d s k t (omega arith)
 
 guarded-same : (w : Reading) (files : FileMap) (a b : Evaluation) (n : ℕ) → AlikeOnForms n a b → AlikeBelow n a b → NeverGains a → FormsSpend a
@@ -150,14 +150,14 @@ Enough (statement x) n k = 2 * n ≤ k
 Enough (alternative a vs) n k = 2 * n ≤ k
 Enough (node cs v) n k = 2 * n ≤ k
 
-enough_for_form : (f : Form) → IsNoTurn f → (n k : ℕ) → 2 * n ≤ k → Enough f n k
+pub enough_for_form : (f : Form) → IsNoTurn f → (n k : ℕ) → 2 * n ≤ k → Enough f n k
 enough_for_form (turn w) h n k l = absurd h
 enough_for_form (expression x) h n k l = l
 enough_for_form (statement x) h n k l = l
 enough_for_form (alternative a vs) h n k l = l
 enough_for_form (node cs v) h n k l = l
 
-enough_for_all : (f : Form) (n k : ℕ) → 2 * n + 1 ≤ k → Enough f n k
+pub enough_for_all : (f : Form) (n k : ℕ) → 2 * n + 1 ≤ k → Enough f n k
 enough_for_all (turn w) n k l = l
 enough_for_all (expression x) n k l = omega arith
 enough_for_all (statement x) n k l = omega arith
@@ -171,13 +171,13 @@ module _ (w : Reading) (p : Program) (files : FileMap) where
   abbrev Same : ℕ → ℕ → Type 0
   Same j k = (f : Form) (d : ℕ) (s : State) (n : ℕ) (t : List ℕ) → Enough f n j → Enough f n k → E j f d s n t ≡ E k f d s n t
 
-  alike-from : (j k n : ℕ) → Same j k → 2 * n + 1 ≤ j → 2 * n + 1 ≤ k → Alike n (E j) (E k)
+  pub alike-from : (j k n : ℕ) → Same j k → 2 * n + 1 ≤ j → 2 * n + 1 ≤ k → Alike n (E j) (E k)
   alike-from j k n same hj hk f d s m t l = same f d s m t (enough_for_all f m j (omega arith)) (enough_for_all f m k (omega arith))
 
-  forms-alike-from : (j k n : ℕ) → Same j k → 2 * n ≤ j → 2 * n ≤ k → AlikeOnForms n (E j) (E k)
+  pub forms-alike-from : (j k n : ℕ) → Same j k → 2 * n ≤ j → 2 * n ≤ k → AlikeOnForms n (E j) (E k)
   forms-alike-from j k n same hj hk f h d s m t l = same f d s m t (enough_for_form f h m j (omega arith)) (enough_for_form f h m k (omega arith))
 
-  alike-below-from : (j k n : ℕ) → Same j k → 2 * n ≤ j → 2 * n ≤ k → AlikeBelow n (E j) (E k)
+  pub alike-below-from : (j k n : ℕ) → Same j k → 2 * n ≤ j → 2 * n ≤ k → AlikeBelow n (E j) (E k)
   alike-below-from j k n same hj hk f d s m t l = same f d s m t (enough_for_all f m j (omega arith)) (enough_for_all f m k (omega arith))
 
   form-step : (j k : ℕ) → Same j k → (f : Form) → IsNoTurn f → (d : ℕ) (s : State) (n : ℕ) (t : List ℕ) → 2 * n ≤ suc j → 2 * n ≤ suc k → E (suc j) f d s n t ≡ E (suc k) f d s n t
@@ -221,15 +221,15 @@ module _ (w : Reading) (p : Program) (files : FileMap) where
   within-same (suc j) (suc k) (node cs v) d s n t hj hk = form-step j k (within-same j k) (node cs v) tt d s n t hj hk
 
   -- the levels of `eval` are enough
-  eval-alike : (k n : ℕ) → 2 * n + 1 ≤ k → Alike n (E k) (eval_as w p files)
+  pub eval-alike : (k n : ℕ) → 2 * n + 1 ≤ k → Alike n (E k) (eval_as w p files)
   unfolding eval_as
   eval-alike k n h f d s m t l = within-same k (2 * m + 1) f d s m t (enough_for_all f m k (omega arith)) (enough_for_all f m (2 * m + 1) (omega arith))
 
-  eval-alike-forms : (k n : ℕ) → 2 * n ≤ k → AlikeOnForms n (E k) (eval_as w p files)
+  pub eval-alike-forms : (k n : ℕ) → 2 * n ≤ k → AlikeOnForms n (E k) (eval_as w p files)
   unfolding eval_as
   eval-alike-forms k n h f i d s m t l = within-same k (2 * m + 1) f d s m t (enough_for_form f i m k (omega arith)) (enough_for_form f i m (2 * m + 1) (omega arith))
 
-  eval-alike-below : (k n : ℕ) → 2 * n ≤ k → AlikeBelow n (E k) (eval_as w p files)
+  pub eval-alike-below : (k n : ℕ) → 2 * n ≤ k → AlikeBelow n (E k) (eval_as w p files)
   unfolding eval_as
   eval-alike-below k n h f d s m t l = within-same k (2 * m + 1) f d s m t (enough_for_all f m k (omega arith)) (enough_for_all f m (2 * m + 1) (omega arith))
 
@@ -263,7 +263,7 @@ module _ (w : Reading) (p : Program) (files : FileMap) where
       let e : 2 * n + 1 ≡ suc (2 * n) = omega arith in
       ap (λ k. E k (turn u) d s n t) e ∙ within-of-turn (2 * n) u d s n t (omega arith)
 
-no_turn : (f : Form) → TakesUnit f → IsNoTurn f
+pub no_turn : (f : Form) → TakesUnit f → IsNoTurn f
 no_turn (turn w) h = h
 no_turn (expression x) h = tt
 no_turn (statement x) h = tt

@@ -10,7 +10,7 @@ use Rattle.rl_value.specs.Plain.{Plain, node, nil, cons, int}
 use denote.Hole.Carrier.{out, shown, hidden}
 use Rattle.rl_rules.specs.Building.{came_of, named_type, int_type}
 use Rattle.rl_rules.specs.Evaluation.{run_as, on_done}
-use Rattle.rl_rules.specs.Examples.{Visiting, SixStrategies, AppendingInConditions, AppendingInBody, visiting, appending_in_body}
+use Rattle.rl_rules.specs.Examples.{Visiting, SixStrategies, AppendingInConditions, AppendingInBody, AppendingInTests, visiting, appending_in_body}
 use Rattle.rl_rules.specs.Rule.{after, on_value}
 use Rattle.rl_visit.specs.Walk.{walk}
 use Rattle.rl_rules.proofs.Computing.{computing}
@@ -68,3 +68,7 @@ appending_in_conditions-prints files = rw (typed_one, came_of, on_done, run_as, 
 pub appending_in_body-prints : (files : FileMap) → AppendingInBody files
 unfolding visiting_computes
 appending_in_body-prints files = rw (typed_one, came_of, on_done, run_as, after, on_value) refl
+
+pub appending_in_tests-prints : (files : FileMap) → AppendingInTests files
+unfolding visiting_computes
+appending_in_tests-prints files = (rw (typed_one, came_of, on_done, run_as, after, on_value) refl, rw (typed_one, came_of, on_done, run_as, after, on_value) refl)

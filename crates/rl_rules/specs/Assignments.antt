@@ -121,6 +121,7 @@ assigned p x op ks v s = with_variable x (assigned_old p x op ks v) s
 abbrev pub one_more_subscript : (List Step → State → Rule) → List Step → Plain → State → Rule
 one_more_subscript go ks v s = go (ks ++ at v ∷ []) s
 
+-- a path has subscripts and fields alone
 abbrev pub step_of : e.Suffix-F Exp Suffix Case Handler Stat → ℕ → (List Step → State → Rule) → List Step → State → Rule
 step_of (e.Subscript place y) d go ks s = part y d s (one_more_subscript go ks)
 step_of (e.Field place name) d go ks s = go (ks ++ field name.name ∷ []) s

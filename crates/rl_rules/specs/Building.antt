@@ -7,7 +7,7 @@ use Rattle.rl_syntax.specs.declared.declaration.Body.TheVariants.{Statements, Va
 use Rattle.rl_syntax.specs.declared.declaration.Decl.{Decl}
 use Rattle.rl_syntax.specs.declared.declaration.Decl.TheVariants as d
 use Rattle.rl_syntax.specs.declared.declaration.Modifier.{Modifier}
-use Rattle.rl_syntax.specs.declared.declaration.Modifier.TheVariants.{Default}
+use Rattle.rl_syntax.specs.declared.declaration.Modifier.TheVariants.{Default, Test}
 use Rattle.rl_syntax.specs.declared.expression.Exp.{Exp}
 use Rattle.rl_syntax.specs.declared.expression.Exp.TheVariants as x
 use Rattle.rl_syntax.specs.declared.expression.Suffix.TheVariants as u
@@ -274,6 +274,10 @@ function = function_marked None
 
 abbrev pub default_function : Ty → List ℕ → List Pattern → List Stat → Decl
 default_function = function_marked (Some Default)
+
+-- `test bool name() { body }`
+abbrev pub test_function : List ℕ → List Stat → Decl
+test_function text body = function_marked (Some Test) bool_type text [] body
 
 -- a function whose body is `= e when conditions`
 abbrev pub function_when : Option Modifier → Ty → List ℕ → List Pattern → Exp → List Exp → Decl

@@ -47,6 +47,7 @@ entry_key y d k s = part y d s (collecting_entry k)
 abbrev pub entry_body : Exp → Exp → ℕ → State → Rule
 entry_body x y d s = part x d s (entry_key y d)
 
+-- each that was collected is a pair
 abbrev pub pair_in : List Plain → List (Plain × Plain) → List (Plain × Plain)
 pair_in (k ∷ v ∷ vs) ps = (k, v) ∷ ps
 pair_in vs ps = ps

@@ -1,13 +1,13 @@
 -- Small programs with what they print, how they end, and the units that are left.
-use Rattle.std.specs.Prelude.{◌≡◌, ℕ, pos, true, false, [], ◌∷◌, Some, None, codes}
+use Rattle.std.specs.Prelude.{◌≡◌, ℕ, pos, true, false, List, [], ◌∷◌, Some, None, map, codes}
 use Rattle.rl_base.specs.Holds.{FileMap}
 use Rattle.rl_exception.specs.Exceptions.{uninitialized_variable, index_out_of_bounds, stack_overflow}
-use Rattle.rl_rules.specs.Building.{main, program, program_with, constructor, function, default_function, void_type, int_type, bool_type, print_line, text, truth, run, done, cut, block, increase, variable, less, declare, assign, finally, catching, trying, catch, only, Came, came_of, return, throw, fail, break, continue, nothing, repeat, repeat_after, provided, number, list, set, pair, plus, it, reduce, matches, enumerate, each, switch, on, new, test, rest, one, number_pattern, text_pattern, list_pattern, set_pattern, pair_pattern, subscript, fallback, global, call, sort_argument, visit, replace, constructor_pattern, named_type, append, loop_value, both, in_parentheses, collect, solve, assign_pair, assign_at, function_when, call_in_extended, program_of, module_named, extends}
+use Rattle.rl_rules.specs.Building.{main, program, program_with, constructor, function, default_function, void_type, int_type, bool_type, print_line, text, truth, run, done, cut, block, increase, variable, less, declare, assign, finally, catching, trying, catch, only, Came, came_of, return, throw, fail, break, continue, nothing, repeat, repeat_after, provided, number, list, set, pair, plus, it, reduce, matches, enumerate, each, switch, on, new, test, rest, one, number_pattern, text_pattern, list_pattern, set_pattern, pair_pattern, subscript, fallback, global, call, sort_argument, visit, replace, constructor_pattern, named_type, append, loop_value, both, in_parentheses, collect, solve, assign_pair, assign_at, function_when, test_function, call_in_extended, program_of, module_named, extends}
 use Rattle.rl_rules.specs.Evaluation.{eval}
 use Rattle.rl_rules.specs.Form.{expression}
 use Rattle.rl_rules.specs.Program.{Program}
 use Rattle.rl_rules.specs.Rule.{Val, Thr}
-use Rattle.rl_rules.specs.Run.{first_state}
+use Rattle.rl_rules.specs.Run.{first_state, derivation, tests, test as test_rule, Verdict, Pass, Fails, Error, OutOfUnits, verdict_of}
 use Rattle.rl_syntax.specs.declared.declaration.Modifier.TheVariants.{Default}
 use Rattle.rl_syntax.specs.declared.operator.Strategy.TheVariants.{TopDown, TopDownBreak, BottomUp, BottomUpBreak, Innermost, Outermost}
 use Rattle.rl_syntax.specs.declared.expression.Exp.{Exp}
@@ -386,6 +386,42 @@ appending_in_body = main (
 -- an `append` in a loop's body adds to that loop alone
 abbrev pub AppendingInBody : FileMap → Type 0
 AppendingInBody files = run appending_in_body files 28 ≡ done (Val empty_tuple) 0 (codes "ab\n")
+
+-- void main() { l = for (x <- [1]) { while (visit (x) { case n: append n; } < 1) ; } println(l); }
+abbrev pub appending_in_while : Program
+appending_in_while = main (
+    declare 3 (loop_value (each (enumerate (new 0) (list (number 1 ∷ [])) ∷ []) (repeat (less (append_in_visit 0 2) (number 1) ∷ []) nothing)))
+    ∷ print_line (variable 3)
+    ∷ [])
+
+-- void main() { l = for (x <- [1]) { do ; while (visit (x) { case n: append n; } < 1); } println(l); }
+abbrev pub appending_in_do : Program
+appending_in_do = main (
+    declare 3 (loop_value (each (enumerate (new 0) (list (number 1 ∷ [])) ∷ []) (repeat_after nothing (less (append_in_visit 0 2) (number 1) ∷ []))))
+    ∷ print_line (variable 3)
+    ∷ [])
+
+-- so does one in the conditions of `while`, and in the test of `do`
+abbrev pub AppendingInTests : FileMap → Type 0
+AppendingInTests files =
+    (run appending_in_while files 20 ≡ done (Val empty_tuple) 0 (codes "[1]\n")) × (run appending_in_do files 21 ≡ done (Val empty_tuple) 0 (codes "[1]\n"))
+
+-- int x = 1; test bool a() { return x < 2; } test bool b() { return 2 < x; } test bool c() { throw "t"; }
+abbrev pub with_tests : Program
+with_tests = program (
+    global (codes "x") 0 (number 1)
+    ∷ test_function (codes "a") (return (less (variable 0) (number 2)) ∷ [])
+    ∷ test_function (codes "b") (return (less (number 2) (variable 0)) ∷ [])
+    ∷ test_function (codes "c") (throw (text (codes "t")) ∷ [])
+    ∷ [])
+
+abbrev pub verdicts : FileMap → ℕ → List Verdict
+verdicts files units = map (λ a. verdict_of (derivation with_tests files (test_rule a) units)) (tests with_tests)
+
+-- each test begins with the initialisers, and has a budget of its own
+abbrev pub Testing : FileMap → Type 0
+Testing files =
+    (verdicts files 7 ≡ Pass ∷ Fails ∷ Error (v.text (codes "t")) ∷ []) × (verdicts files 6 ≡ OutOfUnits ∷ OutOfUnits ∷ Error (v.text (codes "t")) ∷ [])
 
 -- data T = f(T t) | a(); void main() { println(visit (f(a())) { case f(x) => x }); }
 abbrev pub visiting : Program

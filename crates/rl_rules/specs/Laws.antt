@@ -62,6 +62,12 @@ BareIsByForm = (x : Exp) → bare x ≡ inside x bare (out-Exp x)
 abbrev pub ConditionsAreByForm : Type 0
 ConditionsAreByForm = (x : Exp) → conditions_in x ≡ taken_apart x conditions_in (out-Exp x)
 
+-- Own modules.
+
+-- a module's own modules are found through as many levels as there are modules: more make no difference
+abbrev pub OwnModulesAreWhole : Type 0
+OwnModulesAreWhole = (modules : List Module) (m k : ℕ) → m < length modules → own_within (length modules + k) modules [] m ≡ own modules m
+
 -- Scopes.
 
 -- The entries of a finite map of the library are variables: they have what the map has, and setting one sets it in the map. So no two states differ by the order of writes.
@@ -73,6 +79,74 @@ pub record AreFiniteMaps : Type 0 where
 -- what patterns see of a variable from outside is the value that it has
 abbrev pub PatternsSeeVariables : Type 0
 PatternsSeeVariables = (x : ℕ) (s : State) → value_in x (in_reach s) ≡ read x s
+
+-- What was printed before each read.
+
+-- The equation of fronts, as that of evaluation: without a unit there are none; else those of a form are those of its rule, with one unit less. A turn's are those of its rule.
+pub record FrontsAreByRules (p : Program) (files : FileMap) : Type 0 where
+  pub cut : (f : Form) → TakesUnit f → (d : ℕ) (s : State) (t : List ℕ) → fronts p files f d s 0 t ≡ []
+  pub forms : (f : Form) → TakesUnit f → (d : ℕ) (s : State) (n : ℕ) (t : List ℕ)
+      → fronts p files f d s (suc n) t ≡ fronts_by files (eval p files) (fronts p files) (entered p d f s) n t
+  pub turns : (w : Turn) (d : ℕ) (s : State) (n : ℕ) (t : List ℕ)
+      → fronts p files (turn w) d s n t ≡ fronts_by files (eval p files) (fronts p files) (entered p d (turn w) s) n t
+
+-- those of two rules put together are those of the first, and then of the second from where the first was done
+abbrev pub FrontsGoOn : FileMap → Evaluation → Fronts → Type 0
+FrontsGoOn files e fronts = (rule : Rule) (go : Outcome → State → Rule) (n : ℕ) (t : List ℕ)
+    → fronts_by files e fronts (after rule go) n t
+    ≡ fronts_by files e fronts rule n t ++ behind (run_by files e rule n t) (λ r s m u. fronts_by files e fronts (go r s) m u)
+
+-- each begins with what was printed before, and what is printed in the end begins with it
+abbrev pub AreFrontsFrom : (before printed : List ℕ) → List (List ℕ) → Type 0
+AreFrontsFrom before printed fronts = All (λ front. GoesOnFrom before front × GoesOnFrom front printed) fronts
+
+-- How forms end.
+
+-- in no Miss, Kept or Stop
+abbrev pub IsEnd : Outcome → Type 0
+IsEnd Miss = ⊥
+IsEnd Kept = ⊥
+IsEnd Stop = ⊥
+IsEnd r = ⊤
+
+-- so, or in Miss
+abbrev pub IsEndOrMiss : Outcome → Type 0
+IsEndOrMiss Miss = ⊤
+IsEndOrMiss r = IsEnd r
+
+-- a turn of a loop may end in any way, since what follows the loop takes each
+abbrev pub TurnEnds : Turn → Outcome → Type 0
+TurnEnds (while cs body) r = ⊤
+TurnEnds (do_while body cs) r = ⊤
+TurnEnds (solve names body) r = IsEnd r
+TurnEnds (visit strategy cs ty v given) r = IsEnd r
+
+-- only an alternative, and the cases on a node, end in Miss, where they do not serve
+abbrev pub EndsSo : Form → Outcome → Type 0
+EndsSo (expression x) r = IsEnd r
+EndsSo (statement x) r = IsEnd r
+EndsSo (alternative a vs) r = IsEndOrMiss r
+EndsSo (node cs v) r = IsEndOrMiss r
+EndsSo (turn w) r = TurnEnds w r
+
+-- as many scopes, piles and values of `it`
+pub record HasAsMany (s t : State) : Type 0 where
+  pub scopes : length t.scopes ≡ length s.scopes
+  pub appended : length t.appended ≡ length s.appended
+  pub collected : length t.collected ≡ length s.collected
+  pub its : length t.its ≡ length s.its
+
+-- a turn of a loop comes where the loop has a pile
+abbrev pub HasPile : Form → State → Type 0
+HasPile (turn (while cs body)) s = 1 ≤ length s.collected
+HasPile (turn (do_while body cs)) s = 1 ≤ length s.collected
+HasPile f s = ⊤
+
+-- a form that is done ended so, and left as many scopes, piles and values of `it` as it found
+abbrev pub EndsWell : Form → State → Ran → Type 0
+EndsWell f s (Done r t n u) = EndsSo f r × HasAsMany s t
+EndsWell f s (Cut u) = ⊤
+EndsWell f s (Stuck u) = ⊤
 
 -- Members.
 

@@ -2,6 +2,8 @@ pub mod State
 pub mod Form
 pub mod Rule
 pub mod Program
+pub mod Numbering
+pub mod Cleared
 pub mod Nesting
 pub mod Parts
 pub mod Scopes
@@ -28,3 +30,4 @@ pub mod Fronts
 pub mod Laws
 pub mod Building
 pub mod Examples
+pub mod NumberingExamples

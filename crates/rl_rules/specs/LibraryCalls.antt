@@ -31,6 +31,7 @@ print v s = Print (shown_of v) (done s)
 
 -- Reading.
 
+-- there is always a first one
 abbrev pub add_to_first : ℕ → List (List ℕ) → List (List ℕ)
 add_to_first c [] = (c ∷ []) ∷ []
 add_to_first c (segment ∷ segments) = (c ∷ segment) ∷ segments

@@ -102,7 +102,7 @@ sum x rest = in_chain x (with_operands sum_operator rest)
 abbrev pub product : Exp → List (ProductOperator × Exp) → ℕ → State → Rule
 product x rest = in_chain x (with_operands product_operator rest)
 
--- the same operator before each operand but the first, which stands alone where there is no other
+-- the same operator before each operand but the first, which stands alone where there is no other; each form has an operand
 abbrev pub joined_by : (Exp → Operator) → List Exp → ℕ → State → Rule
 joined_by op [] d s = wrong_operand s
 joined_by op (x ∷ xs) d s = in_chain x (map op xs) d s

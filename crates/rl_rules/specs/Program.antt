@@ -7,9 +7,11 @@ use Rattle.rl_syntax.specs.declared.declaration.Decl.{Decl}
 use Rattle.rl_syntax.specs.declared.declaration.Decl.TheVariants as d
 use Rattle.rl_syntax.specs.declared.fragment.Concrete.{Concrete}
 use Rattle.rl_syntax.specs.declared.module.Module.{Module}
+use Rattle.rl_syntax.specs.declared.module.Modules.{Modules}
 use Rattle.rl_syntax.specs.declared.ty.Ty.{Ty}
 use Rattle.rl_types.specs.Declarations.{Declarations}
 use Rattle.rl_types.specs.PlainType.{plain_type}
+use Rattle.rl_types.specs.Program.{declarations_of}
 use Rattle.rl_types.specs.Types.{has}
 use Rattle.rl_value.specs.Plain.{Plain}
 use Rattle.rl_rules.specs.State.{State, in_reach}
@@ -32,6 +34,10 @@ pub record Program : Type 0 where
   pub finished : List ℕ
   pub declarations : Declarations
   pub grammars : Grammars
+
+-- the program of modules that were loaded, where each name has the number of its declaration, as Numbering.antt says
+abbrev pub program_of : Grammars → Modules → Program
+program_of grammars loaded = record { modules = loaded.list; finished = loaded.finished; declarations = declarations_of loaded.list; grammars = grammars }
 
 -- whether a value has a type as it is written
 abbrev pub has_type : Program → Plain → Ty → Bool

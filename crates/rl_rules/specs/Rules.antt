@@ -38,7 +38,7 @@ use Rattle.rl_rules.specs.Visits.{visiting, visit_turn}
 abbrev pub found : (State → Rule) → State → Rule
 found rule s = after (scoped rule s) truth_of
 
--- a loop for the list of what it appends is the loop, with its unit
+-- a loop for the list of what it appends is the loop, with its unit; no other statement stands there
 abbrev pub loop_value : Program → e.Stat-F Exp Suffix Case Handler Stat → ℕ → State → Rule
 loop_value p (e.For place cs body) d s = for_loop p cs body true d s
 loop_value p (e.While place cs body) d s = while_loop cs body true d s

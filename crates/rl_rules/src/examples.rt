@@ -1,7 +1,8 @@
 //! Small programs, evaluated.
 
 ghost use Rattle.rl_base.specs.Holds.{FileMap};
-ghost use Rattle.rl_rules.specs.Examples.{OneLine, FinallyAfterReturn, FinallyThrows, Counting, WithoutValue, OutOfRange, FallingBack, LeavingLoop, Handled, FinallyAtACut, NextAlternative, FalseCondition, ThreeElements, Reducing, TakenBack, FixedAtStart, Divided, FalseUnderMember, OtherAlternative, TestWithoutValue, SecondHandler, DeepestCall, Parsing, Collecting, Exchanging, ChangingInside, JoinedConditions, UnderConditions, Solving, Extending, AppendingInConditions, AppendingInBody, Visiting, SixStrategies};
+ghost use Rattle.rl_rules.specs.NumberingExamples.{NumbersOfNames, NumbersInsideNegations, AreTheSameCleared};
+ghost use Rattle.rl_rules.specs.Examples.{OneLine, FinallyAfterReturn, FinallyThrows, Counting, WithoutValue, OutOfRange, FallingBack, LeavingLoop, Handled, FinallyAtACut, NextAlternative, FalseCondition, ThreeElements, Reducing, TakenBack, FixedAtStart, Divided, FalseUnderMember, OtherAlternative, TestWithoutValue, SecondHandler, DeepestCall, Parsing, Collecting, Exchanging, ChangingInside, JoinedConditions, UnderConditions, Solving, Extending, AppendingInConditions, AppendingInBody, AppendingInTests, Testing, Visiting, SixStrategies};
 
 /// A program of one line takes five units, and prints nothing with four.
 pub fn one_line()
@@ -163,6 +164,16 @@ pub fn appending_in_body()
     ensures { (files : FileMap) → AppendingInBody files }
 {}
 
+/// So does `append` in the conditions of `while` and in the test of `do`.
+pub fn appending_in_tests()
+    ensures { (files : FileMap) → AppendingInTests files }
+{}
+
+/// A test has a derivation of its own, which begins with the initialisers.
+pub fn testing()
+    ensures { (files : FileMap) → Testing files }
+{}
+
 /// A visit costs a unit for each node, beside those of the cases that are taken.
 pub fn visiting()
     ensures { (files : FileMap) → Visiting files }
@@ -171,4 +182,11 @@ pub fn visiting()
 /// What the six strategies print of `f(f(a()))` where `f(x)` becomes `x`.
 pub fn six_strategies()
     ensures { (files : FileMap) → SixStrategies files }
+{}
+
+/// Each declaration has a number of its own, one inside `!p` too, and each name that of its declaration.
+pub fn numbering()
+    ensures names { NumbersOfNames }
+    ensures negations { NumbersInsideNegations }
+    ensures cleared { AreTheSameCleared }
 {}

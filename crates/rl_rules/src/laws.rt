@@ -1,13 +1,14 @@
 //! What holds of all evaluations, whatever the program, the files and the form.
 
-ghost use Rattle.std.specs.Prelude.{ℕ, ◌+◌, List};
+ghost use Rattle.std.specs.Prelude.{ℕ, ◌+◌, List, []};
 ghost use Rattle.rl_base.specs.Holds.{FileMap};
-ghost use Rattle.rl_rules.specs.Evaluation.{Evaluation, Reading, eval_as, printed};
+ghost use Rattle.rl_rules.specs.Evaluation.{Evaluation, Reading, eval_as, eval, printed};
 ghost use Rattle.rl_rules.specs.Form.{Form};
-ghost use Rattle.rl_rules.specs.Laws.{AreFiniteMaps, PatternsSeeVariables, IsByRules, Leaves, GoesOnFrom, More, AbandonedIsTakenBack, MissLeavesState, MatchLeavesState, BareIsByForm, ConditionsAreByForm, EnumerationLeavesState, FinallyIsUsedOnce};
+ghost use Rattle.rl_rules.specs.Fronts.{Fronts, fronts, fronts_of_run};
+ghost use Rattle.rl_rules.specs.Laws.{OwnModulesAreWhole, HasPile, EndsWell, AreFiniteMaps, PatternsSeeVariables, FrontsAreByRules, FrontsGoOn, AreFrontsFrom, IsByRules, Leaves, GoesOnFrom, More, AbandonedIsTakenBack, MissLeavesState, MatchLeavesState, BareIsByForm, ConditionsAreByForm, EnumerationLeavesState, FinallyIsUsedOnce};
 ghost use Rattle.rl_rules.specs.Program.{Program};
 ghost use Rattle.rl_rules.specs.Rule.{Rule};
-ghost use Rattle.rl_rules.specs.Run.{derivation_as};
+ghost use Rattle.rl_rules.specs.Run.{derivation_as, derivation};
 ghost use Rattle.rl_rules.specs.State.{State};
 
 /// The evaluation of a form is that of its rule, after its unit was taken.
@@ -54,8 +55,27 @@ pub fn parentheses_count_for_nothing()
     ensures conditions { ConditionsAreByForm }
 {}
 
+/// No way of extends is longer than the list of modules.
+pub fn own_modules_are_whole()
+    ensures { OwnModulesAreWhole }
+{}
+
 /// Scopes and globals are finite maps, and patterns see the values that variables have.
 pub fn scopes_are_finite_maps()
     ensures maps { AreFiniteMaps }
     ensures patterns { PatternsSeeVariables }
+{}
+
+/// What was printed before each read is told by the rules, as evaluation is, and each such front begins what is printed in the end.
+pub fn fronts_are_by_rules()
+    ensures forms { (p : Program) (files : FileMap) → FrontsAreByRules p files }
+    ensures joined { (files : FileMap) (e : Evaluation) (fronts_of : Fronts) → FrontsGoOn files e fronts_of }
+    ensures begin { (p : Program) (files : FileMap) (f : Form) (d : ℕ) (s : State) (n : ℕ) (t : List ℕ) → AreFrontsFrom t (printed (eval p files f d s n t)) (fronts p files f d s n t) }
+    ensures runs { (p : Program) (files : FileMap) (go : State → Rule) (n : ℕ) → AreFrontsFrom [] (printed (derivation p files go n)) (fronts_of_run p files go n) }
+{}
+
+/// An expression or a statement ends in no Miss, Kept or Stop, an alternative and the cases on a node in no Kept or Stop, and each
+/// form leaves as many scopes, piles and values of `it` as it found, whatever its end.
+pub fn forms_end_well()
+    ensures { (reading : Reading) (p : Program) (files : FileMap) (f : Form) (d : ℕ) (s : State) (n : ℕ) (t : List ℕ) → HasPile f s → EndsWell f s (eval_as reading p files f d s n t) }
 {}
