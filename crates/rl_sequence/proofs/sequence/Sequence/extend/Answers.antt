@@ -1,0 +1,9 @@
+use Rattle.std.proofs.Common.{◌≡◌, ◌<◌, ◌≤◌, ◌+◌, ◌∙◌, sym, ap, subst, length, length-append, take, drop, set, arith}
+use Rattle.std.specs.List.{insert, remove}
+use Rattle.rl_sequence.specs.Whole.{body_elements}
+use Rattle.rl_sequence.specs.Parts.{IsPart}
+use Rattle.rl_sequence.proofs.WholeLemmas.{room}
+use Rattle.rl_sequence.proofs.sequence.Sequence.extend.Goals as goal
+
+pub push-requires : goal.push-requires
+push-requires g c = room _ _ _ _ _ 4294967296 c.loop-item.invariant c.in-Some.ensures.steps.0 (omega (arith, c.requires, length-append c.args.self c.args.items.items))
