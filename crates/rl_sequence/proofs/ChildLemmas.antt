@@ -1,18 +1,18 @@
 -- Children of a level that are taken out, changed, put in and joined.
-use Rattle.std.proofs.Common.{◌≡◌, ℕ, suc, ◌+◌, ◌-◌, ◌<◌, ◌≤◌, ◌^◌, List, [], ◌∷◌, ◌++◌, length, take, drop, map, get_or, set, refl, ap, sym, ◌∙◌, subst, append_assoc, arith, length-append, add-one}
-use Rattle.std.specs.List.{flat_map, insert, remove, All}
-use Rattle.std.specs.Prelude.{Option, Some, None, slice_get}
+use Rattle.std.proofs.Common.{◌≡◌, ℕ, suc, ◌+◌, ◌-◌, ◌<◌, ◌≤◌, List, [], ◌∷◌, ◌++◌, length, take, drop, get_or, refl, ap, sym, ◌∙◌, subst, append_assoc, arith, length-append}
+use Rattle.std.specs.List.{insert, remove, All}
+use Rattle.std.specs.Prelude.{Some}
 use Rattle.std.proofs.lemmas.Grind.{flat_map-append}
-use Rattle.std.proofs.lemmas.List.{take-append-drop, append-nil, map-append, length-set, length-take-le, length-drop, length-take, take-take, drop_all, take_more as one_more}
+use Rattle.std.proofs.lemmas.List.{take-append-drop, append-nil, map-append, length-take-le, length-drop, take_more as one_more}
 use Rattle.std.proofs.lemmas.List.Elements.{All-nil, All-cons, All-head, All-push, All-pop, All-tail, All-append, All-take, All-drop}
 use Rattle.std.proofs.lemmas.List.Edits.{length-insert, length-remove}
 use Rattle.std.specs.declared.rc.Rc.{Rc}
 use Rattle.std.specs.declared.alloc.Global.{Global}
 use Rattle.rl_sequence.specs.declared.children.Child.{Child}
-use Rattle.rl_sequence.specs.Parts.{FullAfter, AreFull, IsPart, Copies, Makes, MakesTwo, Merges, elements_if, IsRightIf, flat, widths, IsChild, AreAlike, AreChildren, IsGap, IsOpening, AreSome, Meets, Joins, IsLevel}
+use Rattle.rl_sequence.specs.Parts.{AreFull, Copies, Merges, flat, widths, IsChild, AreAlike, AreChildren, IsGap, IsOpening, AreSome, Meets, Joins}
 use Rattle.rl_sequence.proofs.FlatLemmas.{take_more}
-use Rattle.rl_sequence.proofs.FullLemmas.{full_front, full_back, full_from, full_seam, after_wider, full_wider}
-use Rattle.rl_sequence.proofs.PartsLemmas.{flat_at, take_remove, drop_remove, at_place, set_inside, get_inside, part_inside, take_inside, drop_inside, insert_inside, remove_inside}
+use Rattle.rl_sequence.proofs.FullLemmas.{full_front, full_back, full_seam, after_wider, full_wider}
+use Rattle.rl_sequence.proofs.PartsLemmas.{flat_at, take_remove, drop_remove, at_place}
 
 module _ {C X : Type 0} (elements : C → List X) (is_right : C → Type 0) (width : C → ℕ) where
   abbrev breadth : Child C → ℕ

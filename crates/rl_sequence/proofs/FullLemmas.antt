@@ -1,5 +1,5 @@
 -- Widths of which no two neighbours fit into one, part by part.
-use Rattle.std.proofs.Common.{◌≡◌, ℕ, ◌+◌, ◌<◌, ◌≤◌, List, [], ◌∷◌, ◌++◌, arith}
+use Rattle.std.proofs.Common.{ℕ, ◌+◌, ◌<◌, ◌≤◌, List, [], ◌∷◌, ◌++◌, arith}
 use Rattle.rl_sequence.specs.Parts.{FullAfter, AreFull}
 
 after_front : (p : ℕ) (ms ns : List ℕ) → FullAfter p (ms ++ ns) → FullAfter p ms

@@ -1,6 +1,4 @@
-use Rattle.std.proofs.Common.{◌≡◌, ap, sym, ◌∙◌, length, arith}
-use Rattle.rl_sequence.specs.Parts.{IsChild}
-use Rattle.rl_sequence.specs.declared.children.Child.{Child}
+use Rattle.std.proofs.Common.{arith}
 use Rattle.rl_sequence.proofs.LevelLemmas.{total_step}
 use Rattle.rl_sequence.proofs.children.total.Goals as goal
 

@@ -1,6 +1,5 @@
 use Rattle.std.proofs.Common.{arith}
 use Rattle.rl_sequence.proofs.LevelLemmas.{small_inserted, inserted}
-use Rattle.rl_sequence.proofs.ChildLemmas.{opened_length}
 use Rattle.rl_sequence.proofs.level.Level.insert_in.Goals as goal
 
 pub returns : goal.returns

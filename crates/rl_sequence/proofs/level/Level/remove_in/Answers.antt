@@ -1,5 +1,4 @@
 use Rattle.rl_sequence.proofs.LevelLemmas.{small_removed, removed}
-use Rattle.rl_sequence.proofs.ChildLemmas.{opened_length}
 use Rattle.rl_sequence.proofs.level.Level.remove_in.Goals as goal
 
 pub returns : goal.returns

@@ -1,7 +1,4 @@
-use Rattle.std.proofs.Common.{◌≡◌, ◌<◌, ◌≤◌, ◌+◌, ◌∙◌, sym, ap, subst, length, length-append, take, drop, set, arith}
-use Rattle.std.specs.List.{insert, remove}
-use Rattle.rl_sequence.specs.Whole.{body_elements}
-use Rattle.rl_sequence.specs.Parts.{IsPart}
+use Rattle.std.proofs.Common.{length-append, arith}
 use Rattle.rl_sequence.proofs.WholeLemmas.{room}
 use Rattle.rl_sequence.proofs.sequence.Sequence.extend.Goals as goal
 

@@ -1,7 +1,4 @@
-use Rattle.std.proofs.Common.{◌≡◌, ◌<◌, ◌≤◌, ◌+◌, ◌∙◌, sym, ap, subst, length, take, drop, set, arith}
-use Rattle.std.specs.List.{insert, remove}
-use Rattle.rl_sequence.specs.Whole.{body_elements}
-use Rattle.rl_sequence.specs.Parts.{IsPart}
+use Rattle.std.proofs.Common.{◌≤◌, ◌∙◌, ap, take, arith}
 use Rattle.rl_sequence.proofs.WholeLemmas.{taken_back}
 use Rattle.rl_sequence.proofs.sequence.Sequence.front.Goals as goal
 

@@ -1,6 +1,4 @@
-use Rattle.std.proofs.Common.{◌≡◌, ◌<◌, ◌≤◌, ◌+◌, ◌∙◌, sym, ap, subst, length, take, drop, set, arith}
-use Rattle.std.specs.List.{insert, remove}
-use Rattle.rl_sequence.specs.Whole.{body_elements}
+use Rattle.std.proofs.Common.{subst}
 use Rattle.rl_sequence.specs.Parts.{IsPart}
 use Rattle.rl_sequence.proofs.WholeLemmas.{part_back}
 use Rattle.rl_sequence.proofs.sequence.Sequence.part.Goals as goal

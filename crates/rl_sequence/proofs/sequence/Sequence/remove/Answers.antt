@@ -1,7 +1,6 @@
-use Rattle.std.proofs.Common.{◌≡◌, ◌<◌, ◌≤◌, ◌+◌, ◌∙◌, sym, ap, subst, length, take, drop, set, arith}
-use Rattle.std.specs.List.{insert, remove}
+use Rattle.std.proofs.Common.{◌<◌, ◌∙◌, ap, length, arith}
+use Rattle.std.specs.List.{remove}
 use Rattle.rl_sequence.specs.Whole.{body_elements}
-use Rattle.rl_sequence.specs.Parts.{IsPart}
 use Rattle.rl_sequence.proofs.WholeLemmas.{removed_front, removed_back, whole_without}
 use Rattle.rl_sequence.proofs.sequence.Sequence.remove.Goals as goal
 

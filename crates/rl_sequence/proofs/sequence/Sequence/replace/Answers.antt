@@ -1,7 +1,5 @@
-use Rattle.std.proofs.Common.{◌≡◌, ◌<◌, ◌≤◌, ◌+◌, ◌∙◌, sym, ap, subst, length, take, drop, set, arith}
-use Rattle.std.specs.List.{insert, remove}
+use Rattle.std.proofs.Common.{◌<◌, ◌∙◌, ap, length, set, arith}
 use Rattle.rl_sequence.specs.Whole.{body_elements}
-use Rattle.rl_sequence.specs.Parts.{IsPart}
 use Rattle.rl_sequence.proofs.WholeLemmas.{replaced_front, replaced_back}
 use Rattle.rl_sequence.proofs.sequence.Sequence.replace.Goals as goal
 
