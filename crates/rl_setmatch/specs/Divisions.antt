@@ -7,7 +7,7 @@ abbrev pub choices : ℕ → ℕ → List (List ℕ)
 choices k zero = [] ∷ []
 choices k (suc n) = flat_map (λ star. map (λ stars. star ∷ stars) (choices k n)) (range_with_len 0 k)
 
--- the elements that a choice gives to a star
+-- The elements that a choice gives to a star. A choice has a star for each element, so that neither list ends before the other.
 abbrev pub part : {A : Type 0} → List A → List ℕ → ℕ → List A
 part [] choice star = []
 part (e ∷ es) [] star = []
