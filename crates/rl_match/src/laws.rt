@@ -1,10 +1,15 @@
 //! What holds of the bindings of patterns.
 
-ghost use Rattle.rl_match.specs.Laws.{AreByForm, VariablesAreByForm};
+ghost use Rattle.rl_match.specs.Laws.{AreByForm, BelowIsByKids, VariablesAreByForm};
 
 /// The bindings of a pattern are by its form and by those of the patterns in it, at any depth: how many levels their definition
 /// opens makes no difference. So are its variables.
 pub fn bindings_are_by_form()
     ensures bindings { AreByForm }
     ensures variables { VariablesAreByForm }
+{}
+
+/// A deep pattern and a visit go through the same values: a value, and then those below each of its kids.
+pub fn below_is_by_kids()
+    ensures { BelowIsByKids }
 {}
