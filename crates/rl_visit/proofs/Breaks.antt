@@ -1,15 +1,13 @@
 -- Which nodes the `break` strategies ask.
-use Rattle.std.proofs.Common.{◌≡◌, ℕ, zero, suc, ◌+◌, ◌<◌, ◌≤◌, Bool, true, false, ◌||◌, if◌then◌else◌, List, [], ◌∷◌, ◌++◌, length, refl, sym, ◌∙◌, ap, subst, arith}
+use Rattle.std.proofs.Common.{◌≡◌, ℕ, zero, suc, ◌+◌, ◌<◌, ◌≤◌, Bool, true, false, ◌||◌, List, [], ◌∷◌, ◌++◌, length, refl, sym, ◌∙◌, subst, arith}
 use Rattle.rl_syntax.specs.declared.operator.Strategy.TheVariants.{TopDownBreak, BottomUpBreak}
 use Rattle.rl_types.specs.Declarations.{Declarations}
-use Rattle.rl_value.specs.Kids.{kids as kids_of, renew}
+use Rattle.rl_value.specs.Kids.{kids as kids_of}
 use Rattle.rl_value.specs.Plain.{Plain, plain_height}
 use Rattle.rl_visit.specs.Laws.{IsServed, IsBelow, AsksNothingBelow, AsksNothingAbove}
-use Rattle.rl_visit.specs.Walk.{Answer, no, kept, changed, Position, Walked, ask, end, visit_type, too_large, Going, on_end, in_child, at_node, each_kid, same_values, may_have, fits, renewed, top_down_break, bottom_up_break, walk}
-
--- what follows after all children
-abbrev Finish : Type 0
-Finish = List Plain → Bool → List Answer → Walked
+use Rattle.rl_visit.specs.Walk.{Answer, no, kept, changed, Position, Walked, ask, end, visit_type, too_large, Going, on_end, in_child, each_kid, top_down_break, bottom_up_break, walk}
+use Rattle.rl_visit.proofs.Steps.{Finish, after_kids, node_after, node_after_kids, renewed-both}
+use Rattle.rl_visit.proofs.Bounds.{down_break-same}
 
 longer : (xs : List Plain) (v : Plain) → length (xs ++ v ∷ []) ≡ length xs + 1
 longer [] v = refl
@@ -22,19 +20,6 @@ prefix-le (x ∷ xs) ys = omega (arith, prefix-le xs ys)
 or-true : (b : Bool) → (b || true) ≡ true
 or-true true = refl
 or-true false = refl
-
--- a relation of walks that holds of both branches
-choose : (R : Walked → Walked → Type 0) (b : Bool) (x y x' y' : Walked) → R x x' → R y y' → R (if b then x else y) (if b then x' else y')
-choose R true x y x' y' h k = h
-choose R false x y x' y' h k = k
-
-renewed-both : (R : Walked → Walked → Type 0) → R visit_type visit_type → R too_large too_large → (d : Declarations) (v : Plain) (ks : List Plain) (s : Bool) (given given' : List Answer) (go : Going)
-    → ((u : Plain) → R (go u s given) (go u s given')) → R (renewed d v ks s given go) (renewed d v ks s given' go)
-renewed-both R hv ht d v ks s given given' go h =
-    choose R (same_values (kids_of v) ks) (go v s given) (if may_have d v ks then (if fits (renew v ks) then go (renew v ks) s given else too_large) else visit_type)
-    (go v s given') (if may_have d v ks then (if fits (renew v ks) then go (renew v ks) s given' else too_large) else visit_type) (h v)
-    (choose R (may_have d v ks) (if fits (renew v ks) then go (renew v ks) s given else too_large) visit_type (if fits (renew v ks) then go (renew v ks) s given' else too_large) visit_type
-    (choose R (fits (renew v ks)) (go (renew v ks) s given) too_large (go (renew v ks) s given') too_large (h (renew v ks)) ht) hv)
 
 -- Where a walk asks.
 
@@ -151,10 +136,6 @@ not_below-kids w more hw he go hg done (kid ∷ kids) s given =
     (λ v r left. not_below-kids w more hw he go hg (done ++ v ∷ []) kids (s || r) left)
     (λ v r left. behind-kids w go (length done) hg (done ++ v ∷ []) kids (s || r) left (omega (arith, longer done v)))
 
--- what follows after the children in a walk from above
-abbrev after_kids : Declarations → Plain → Finish
-after_kids d v ks s left = renewed d v ks s left end
-
 after_kids-no_ask : (d : Declarations) (v : Plain) (ks : List Plain) (s : Bool) (given : List Answer) → NoAsk (after_kids d v ks s given)
 after_kids-no_ask d v ks s given = renewed-both (λ x y. NoAsk x) tt tt d v ks s given given end (λ u. tt)
 
@@ -178,77 +159,11 @@ down-not_below a h after (suc k) d v (no ∷ before) =
 down-not_below a h after (suc k) d v (kept ∷ before) = tt
 down-not_below a h after (suc k) d v (changed u ∷ before) = tt
 
--- at most so many answers are left
-abbrev Leaves : ℕ → Walked → Type 0
-Leaves n (ask place u) = Unit {0}
-Leaves n (end v s left) = length left ≤ n
-Leaves n visit_type = Unit {0}
-Leaves n too_large = Unit {0}
-
-leaves-le : (m n : ℕ) (x : Walked) → m ≤ n → Leaves m x → Leaves n x
-leaves-le m n (ask place u) l h = tt
-leaves-le m n (end v s left) l h = omega arith
-leaves-le m n visit_type l h = tt
-leaves-le m n too_large l h = tt
-
-leaves-step : (n i : ℕ) (x : Walked) (f : Going) → Leaves n x → ((v : Plain) (s : Bool) (left : List Answer) → length left ≤ n → Leaves n (f v s left)) → Leaves n (on_end (in_child i x) f)
-leaves-step n i (ask place u) f l h = tt
-leaves-step n i (end v s left) f l h = h v s left l
-leaves-step n i visit_type f l h = tt
-leaves-step n i too_large f l h = tt
-
-leaves-kids : (w : Plain → List Answer → Walked) → ((kid : Plain) (given : List Answer) → Leaves (length given) (w kid given))
-    → (go : Finish) → ((ks : List Plain) (s : Bool) (left : List Answer) → Leaves (length left) (go ks s left))
-    → (n : ℕ) (done kids : List Plain) (s : Bool) (given : List Answer) → length given ≤ n → Leaves n (each_kid w done kids s given go)
-leaves-kids w hw go hg n done [] s given l = leaves-le (length given) n (go done s given) l (hg done s given)
-leaves-kids w hw go hg n done (kid ∷ kids) s given l =
-    leaves-step n (length done) (w kid given) (λ v r left. each_kid w (done ++ v ∷ []) kids (s || r) left go) (leaves-le (length given) n (w kid given) l (hw kid given))
-    (λ v r left k. leaves-kids w hw go hg n (done ++ v ∷ []) kids (s || r) left k)
-
-after_kids-leaves : (d : Declarations) (v : Plain) (ks : List Plain) (s : Bool) (given : List Answer) → Leaves (length given) (after_kids d v ks s given)
-after_kids-leaves d v ks s given = renewed-both (λ x y. Leaves (length given) x) tt tt d v ks s given given end (λ u. omega arith)
-
-down-leaves : (k : ℕ) (d : Declarations) (v : Plain) (given : List Answer) → Leaves (length given) (top_down_break k d v given)
-down-leaves zero d v given = tt
-down-leaves (suc k) d v [] = tt
-down-leaves (suc k) d v (no ∷ given) =
-    leaves-kids (top_down_break k d) (down-leaves k d) (after_kids d v) (after_kids-leaves d v) (suc (length given)) [] (kids_of v) false given (omega arith)
-down-leaves (suc k) d v (kept ∷ given) = omega arith
-down-leaves (suc k) d v (changed u ∷ given) = omega arith
-
-same-step : (n i : ℕ) (x : Walked) (f g : Going) → Leaves n x → ((v : Plain) (s : Bool) (left : List Answer) → length left ≤ n → f v s left ≡ g v s left) → on_end (in_child i x) f ≡ on_end (in_child i x) g
-same-step n i (ask place u) f g l h = refl
-same-step n i (end v s left) f g l h = h v s left l
-same-step n i visit_type f g l h = refl
-same-step n i too_large f g l h = refl
-
-same-kids : (w z : Plain → List Answer → Walked) (n : ℕ) → ((kid : Plain) (given : List Answer) → length given ≤ n → w kid given ≡ z kid given)
-    → ((kid : Plain) (given : List Answer) → Leaves (length given) (w kid given)) → (go : Finish)
-    → (done kids : List Plain) (s : Bool) (given : List Answer) → length given ≤ n → each_kid w done kids s given go ≡ each_kid z done kids s given go
-same-kids w z n h hl go done [] s given l = refl
-same-kids w z n h hl go done (kid ∷ kids) s given l =
-    same-step n (length done) (w kid given) (λ v r left. each_kid w (done ++ v ∷ []) kids (s || r) left go) (λ v r left. each_kid z (done ++ v ∷ []) kids (s || r) left go)
-    (leaves-le (length given) n (w kid given) l (hl kid given)) (λ v r left k. same-kids w z n h hl go (done ++ v ∷ []) kids (s || r) left k)
-    ∙ ap (λ x. on_end (in_child (length done) x) (λ v r left. each_kid z (done ++ v ∷ []) kids (s || r) left go)) (h kid given l)
-
--- any bound above the number of answers gives the same walk
-down-same : (k m : ℕ) (d : Declarations) (v : Plain) (given : List Answer) → length given ≤ k → length given ≤ m → top_down_break k d v given ≡ top_down_break m d v given
-down-same zero zero d v given l l' = refl
-down-same zero (suc m) d v [] l l' = refl
-down-same zero (suc m) d v (a ∷ given) l l' = absurd (omega arith)
-down-same (suc k) zero d v [] l l' = refl
-down-same (suc k) zero d v (a ∷ given) l l' = absurd (omega arith)
-down-same (suc k) (suc m) d v [] l l' = refl
-down-same (suc k) (suc m) d v (no ∷ given) l l' =
-    same-kids (top_down_break k d) (top_down_break m d) (length given) (λ kid g h. down-same k m d kid g (omega arith) (omega arith)) (down-leaves k d) (after_kids d v) [] (kids_of v) false given (omega arith)
-down-same (suc k) (suc m) d v (kept ∷ given) l l' = refl
-down-same (suc k) (suc m) d v (changed u ∷ given) l l' = refl
-
 pub nothing-below : (d : Declarations) → AsksNothingBelow d TopDownBreak
 unfolding walk
 nothing-below d v before after a p q hp h hq =
     let n : ℕ = suc (length (before ++ a ∷ after)) in
-    let e : top_down_break n d v before ≡ ask p hp.0 = down-same n (suc (length before)) d v before (omega (arith, prefix-le before (a ∷ after))) (omega arith) ∙ hp.1 in
+    let e : top_down_break n d v before ≡ ask p hp.0 = down_break-same n (suc (length before)) d v before (omega (arith, prefix-le before (a ∷ after))) (omega arith) ∙ hp.1 in
     let r : NotBelow (ask p hp.0) (top_down_break n d v (before ++ a ∷ after)) = subst (λ x. NotBelow x (top_down_break n d v (before ++ a ∷ after))) e (down-not_below a h after n d v before) in
     subst (λ y. NotBelow (ask p hp.0) y) hq.1 r
 
@@ -348,13 +263,6 @@ not_above-kids w more hw hs he go hg hn done (kid ∷ kids) s given =
     not_above-step more (length done) (w kid given) (w kid (given ++ more)) (λ v r left. each_kid w (done ++ v ∷ []) kids (s || r) left go) (hw kid given) (hs kid given) (he kid given)
     (λ v r left. not_above-kids w more hw hs he go hg hn (done ++ v ∷ []) kids (s || r) left)
     (λ v left. subst (λ b. Behind (length done) (each_kid w (done ++ v ∷ []) kids b left go)) (sym (or-true s)) (behind-kids-served w go (length done) hn (done ++ v ∷ []) kids left (omega (arith, longer done v))))
-
--- the node, after its children
-abbrev node_after : Going
-node_after u s more = if s then end u true more else at_node u more end
-
-abbrev node_after_kids : Declarations → Plain → Finish
-node_after_kids d v ks s left = renewed d v ks s left node_after
 
 node-extends : (more : List Answer) (u : Plain) (s : Bool) (given : List Answer) → Extends more (node_after u s given) (node_after u s (given ++ more))
 node-extends more u true given = refl

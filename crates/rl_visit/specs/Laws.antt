@@ -1,9 +1,25 @@
 -- What holds of walks.
-use Rattle.std.specs.Prelude.{◌≡◌, ⊤, List, [], ◌∷◌, ◌++◌}
+use Rattle.std.specs.Prelude.{◌≡◌, ⊤, Bool, false, List, [], ◌∷◌, ◌++◌}
 use Rattle.rl_syntax.specs.declared.operator.Strategy.{Strategy}
+use Rattle.rl_syntax.specs.declared.operator.Strategy.TheVariants.{Innermost, Outermost, TopDown, TopDownBreak, BottomUp, BottomUpBreak}
 use Rattle.rl_types.specs.Declarations.{Declarations}
 use Rattle.rl_value.specs.Plain.{Plain}
-use Rattle.rl_visit.specs.Walk.{Answer, no, kept, changed, Position, ask, walk}
+use Rattle.rl_visit.specs.Walk.{Answer, no, kept, changed, Position, ask, node_last, node_last_break, node_first, node_first_break, once_more, repeated, walk}
+
+-- A walk is by the same walk of the children, and a repeated one by its walk and by what is repeated after it. No number bounds them.
+pub record WalksAreByForm (d : Declarations) : Type 0 where
+  pub bottom_up : (v : Plain) (given : List Answer) → walk d BottomUp v given ≡ node_last d (walk d BottomUp) v given
+  pub bottom_up_break : (v : Plain) (given : List Answer) → walk d BottomUpBreak v given ≡ node_last_break d (walk d BottomUpBreak) v given
+  pub top_down : (v : Plain) (given : List Answer) → walk d TopDown v given ≡ node_first d (walk d TopDown) v given
+  pub top_down_break : (v : Plain) (given : List Answer) → walk d TopDownBreak v given ≡ node_first_break d (walk d TopDownBreak) v given
+  pub innermost : (v : Plain) (given : List Answer) → walk d Innermost v given ≡ repeated (walk d BottomUp) v false given
+  pub from_below : (v : Plain) (served : Bool) (given : List Answer)
+      → repeated (walk d BottomUp) v served given ≡ once_more (walk d BottomUp) (repeated (walk d BottomUp)) v served given
+  pub outermost : (v : Plain) (given : List Answer) → walk d Outermost v given ≡ repeated (walk d TopDown) v false given
+  pub from_above : (v : Plain) (served : Bool) (given : List Answer)
+      → repeated (walk d TopDown) v served given ≡ once_more (walk d TopDown) (repeated (walk d TopDown)) v served given
+
+-- The `break` strategies.
 
 -- something served the node
 abbrev pub IsServed : Answer → Type 0

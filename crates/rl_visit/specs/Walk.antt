@@ -114,45 +114,66 @@ renewed d v ks served given go =
     else if may_have d v ks then fitting (renew v ks) served given go
     else visit_type
 
--- The strategies. A number bounds how deep a walk nests: walks from below nest no deeper than the value is high, and each other walk takes an answer before it nests.
+-- The strategies, by a walk of the children.
 
 -- the children, and then the node
-abbrev pub bottom_up : ℕ → Declarations → Plain → List Answer → Walked
-bottom_up zero d v given = ask [] v
-bottom_up (suc k) d v given =
-    each_kid (bottom_up k d) [] (kids_of v) false given (λ ks below left.
+abbrev pub node_last : Declarations → (Plain → List Answer → Walked) → Plain → List Answer → Walked
+node_last d walk v given =
+    each_kid walk [] (kids_of v) false given (λ ks below left.
     renewed d v ks below left (λ u s more.
     at_node u more (λ w here rest. end w (s || here) rest)))
 
 -- the children, and then the node where none below it was served
-abbrev pub bottom_up_break : ℕ → Declarations → Plain → List Answer → Walked
-bottom_up_break zero d v given = ask [] v
-bottom_up_break (suc k) d v given =
-    each_kid (bottom_up_break k d) [] (kids_of v) false given (λ ks below left.
+abbrev pub node_last_break : Declarations → (Plain → List Answer → Walked) → Plain → List Answer → Walked
+node_last_break d walk v given =
+    each_kid walk [] (kids_of v) false given (λ ks below left.
     renewed d v ks below left (λ u s more.
     if s then end u true more else at_node u more end))
 
 -- the node, and then the children of what came of it
-abbrev pub top_down : ℕ → Declarations → Plain → List Answer → Walked
-top_down zero d v given = ask [] v
-top_down (suc k) d v given =
+abbrev pub node_first : Declarations → (Plain → List Answer → Walked) → Plain → List Answer → Walked
+node_first d walk v given =
     at_node v given (λ u here left.
-    each_kid (top_down k d) [] (kids_of u) here left (λ ks served more.
+    each_kid walk [] (kids_of u) here left (λ ks served more.
     renewed d u ks served more end))
 
 -- the node, and then its children where it was not served
-abbrev pub top_down_break : ℕ → Declarations → Plain → List Answer → Walked
-top_down_break zero d v given = ask [] v
-top_down_break (suc k) d v given =
+abbrev pub node_first_break : Declarations → (Plain → List Answer → Walked) → Plain → List Answer → Walked
+node_first_break d walk v given =
     at_node v given (λ u here left.
     if here then end u true left
-    else each_kid (top_down_break k d) [] (kids_of u) false left (λ ks served more. renewed d u ks served more end))
+    else each_kid walk [] (kids_of u) false left (λ ks served more. renewed d u ks served more end))
+
+-- a walk; where it leaves the value equal it is the last, and else `go` goes on
+abbrev pub once_more : (Plain → List Answer → Walked) → Going → Going
+once_more walk go v served given =
+    on_end (walk v given) (λ u s left. if plain_eq v u then end u (served || s) left else go u (served || s) left)
+
+-- A number bounds how often a walk nests. Walks from below nest no deeper than the value is high, and each other walk takes an answer before it nests: so no bound is reached (`WalksAreByForm`).
+
+abbrev pub bottom_up : ℕ → Declarations → Plain → List Answer → Walked
+bottom_up zero d v given = ask [] v
+bottom_up (suc k) d v given = node_last d (bottom_up k d) v given
+
+abbrev pub bottom_up_break : ℕ → Declarations → Plain → List Answer → Walked
+bottom_up_break zero d v given = ask [] v
+bottom_up_break (suc k) d v given = node_last_break d (bottom_up_break k d) v given
+
+abbrev pub top_down : ℕ → Declarations → Plain → List Answer → Walked
+top_down zero d v given = ask [] v
+top_down (suc k) d v given = node_first d (top_down k d) v given
+
+abbrev pub top_down_break : ℕ → Declarations → Plain → List Answer → Walked
+top_down_break zero d v given = ask [] v
+top_down_break (suc k) d v given = node_first_break d (top_down_break k d) v given
+
+abbrev pub until_equal : ℕ → (Plain → List Answer → Walked) → Going
+until_equal zero walk v served given = ask [] v
+until_equal (suc k) walk v served given = once_more walk (until_equal k walk) v served given
 
 -- a walk again and again, until one leaves the value equal
-abbrev pub until_equal : ℕ → (Plain → List Answer → Walked) → Plain → Bool → List Answer → Walked
-until_equal zero walk v served given = ask [] v
-until_equal (suc k) walk v served given =
-    on_end (walk v given) (λ u s left. if plain_eq v u then end u (served || s) left else until_equal k walk u (served || s) left)
+abbrev pub repeated : (Plain → List Answer → Walked) → Going
+repeated walk v served given = until_equal (suc (length given)) walk v served given
 
 abbrev pub from_below : Declarations → Plain → List Answer → Walked
 from_below d v given = bottom_up (plain_height v) d v given
@@ -166,5 +187,5 @@ walk d BottomUp v given = from_below d v given
 walk d BottomUpBreak v given = bottom_up_break (plain_height v) d v given
 walk d TopDown v given = from_above d v given
 walk d TopDownBreak v given = top_down_break (suc (length given)) d v given
-walk d Innermost v given = until_equal (suc (length given)) (from_below d) v false given
-walk d Outermost v given = until_equal (suc (length given)) (from_above d) v false given
+walk d Innermost v given = repeated (from_below d) v false given
+walk d Outermost v given = repeated (from_above d) v false given

@@ -2,7 +2,13 @@
 
 ghost use Rattle.rl_syntax.specs.declared.operator.Strategy.TheVariants.{TopDownBreak, BottomUpBreak};
 ghost use Rattle.rl_types.specs.Declarations.{Declarations};
-ghost use Rattle.rl_visit.specs.Laws.{AsksNothingBelow, AsksNothingAbove};
+ghost use Rattle.rl_visit.specs.Laws.{WalksAreByForm, AsksNothingBelow, AsksNothingAbove};
+
+/// A walk is by its strategy and by the walks of the children, at any depth, and a repeated one goes on until a walk leaves the
+/// value equal: the numbers that bound them in their definitions make no difference.
+pub fn walks_are_by_form()
+    ensures { (d : Declarations) → WalksAreByForm d }
+{}
 
 /// `top-down-break` asks no node below one that was served, and `bottom-up-break` none above it.
 pub fn break_strategies_stop()
