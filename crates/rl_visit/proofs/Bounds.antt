@@ -7,7 +7,7 @@ use Rattle.rl_value.specs.declared.shape.Role.{Role}
 use Rattle.rl_value.specs.declared.shape.Role.TheVariants.{Layout, Rep, Opt}
 use Rattle.rl_value.specs.Laws.{plain_eq}
 use Rattle.rl_visit.specs.Laws.{WalksAreByForm}
-use Rattle.rl_visit.specs.Walk.{Answer, no, kept, changed, Walked, ask, end, visit_type, too_large, Going, on_end, in_child, each_kid, renewed, node_last, node_first, node_first_break, once_more, bottom_up, bottom_up_break, top_down, top_down_break, until_equal, repeated, from_below, from_above, walk}
+use Rattle.rl_visit.specs.Walk.{Children, Answer, no, kept, changed, Walked, ask, end, visit_type, too_large, Going, on_end, in_child, each_kid, renewed, node_last, node_first, node_first_break, once_more, bottom_up, bottom_up_break, top_down, top_down_break, until_equal, repeated, from_below, from_above, walk}
 use Rattle.rl_visit.proofs.Steps.{Finish, after_kids, node_after_all, node_after_kids, renewed-both}
 
 abbrev Walk : Type 0
@@ -74,12 +74,12 @@ end-alike too_large f g e = refl
 
 -- walks that are the same of values at most so high
 lower-alike : (h : ℕ) (w z : Walk) → ((v : Plain) (given : List Answer) → plain_height v ≤ h → w v given ≡ z v given) → (go : Finish)
-    → (done kids : List Plain) (s : Bool) (given : List Answer) → Within h kids → each_kid w done kids s given go ≡ each_kid z done kids s given go
+    → (done : Children) (kids : List Plain) (s : Bool) (given : List Answer) → Within h kids → each_kid w done kids s given go ≡ each_kid z done kids s given go
 lower-alike h w z same go done [] s given l = refl
 lower-alike h w z same go done (kid ∷ kids) s given l =
-    ap (λ x. on_end (in_child (length done) x) (λ v r left. each_kid w (done ++ v ∷ []) kids (s || r) left go)) (same kid given l.0)
-    ∙ end-alike (in_child (length done) (z kid given)) (λ v r left. each_kid w (done ++ v ∷ []) kids (s || r) left go) (λ v r left. each_kid z (done ++ v ∷ []) kids (s || r) left go)
-    (λ v r left. lower-alike h w z same go (done ++ v ∷ []) kids (s || r) left l.1)
+    ap (λ x. on_end (in_child (length done) x) (λ v r left. each_kid w (done ++ (kid, v) ∷ []) kids (s || r) left go)) (same kid given l.0)
+    ∙ end-alike (in_child (length done) (z kid given)) (λ v r left. each_kid w (done ++ (kid, v) ∷ []) kids (s || r) left go) (λ v r left. each_kid z (done ++ (kid, v) ∷ []) kids (s || r) left go)
+    (λ v r left. lower-alike h w z same go (done ++ (kid, v) ∷ []) kids (s || r) left l.1)
 
 -- a walk from below, with what follows after the children
 module _ (W : ℕ → Walk) (finish : Plain → Finish) (step : (k : ℕ) (v : Plain) (given : List Answer) → W (suc k) v given ≡ each_kid (W k) [] (kids_of v) false given (finish v)) where
@@ -126,14 +126,14 @@ leaves-step m n i too_large f l h = tt
 abbrev LeavesAll : Walk → Type 0
 LeavesAll w = (v : Plain) (given : List Answer) → Leaves (suc (length given)) (w v given)
 
-leaves-kids : (m n : ℕ) (w : Walk) → LeavesAll w → (go : Finish) → ((ks : List Plain) (s : Bool) (given : List Answer) → length given < n → Leaves m (go ks s given))
-    → (done kids : List Plain) (s : Bool) (given : List Answer) → length given < n → Leaves m (each_kid w done kids s given go)
+leaves-kids : (m n : ℕ) (w : Walk) → LeavesAll w → (go : Finish) → ((ks : Children) (s : Bool) (given : List Answer) → length given < n → Leaves m (go ks s given))
+    → (done : Children) (kids : List Plain) (s : Bool) (given : List Answer) → length given < n → Leaves m (each_kid w done kids s given go)
 leaves-kids m n w hw go hg done [] s given l = hg done s given l
 leaves-kids m n w hw go hg done (kid ∷ kids) s given l =
-    leaves-step m n (length done) (w kid given) (λ v r left. each_kid w (done ++ v ∷ []) kids (s || r) left go) (leaves-le (suc (length given)) n (w kid given) (omega arith) (hw kid given))
-    (λ v r left k. leaves-kids m n w hw go hg (done ++ v ∷ []) kids (s || r) left k)
+    leaves-step m n (length done) (w kid given) (λ v r left. each_kid w (done ++ (kid, v) ∷ []) kids (s || r) left go) (leaves-le (suc (length given)) n (w kid given) (omega arith) (hw kid given))
+    (λ v r left k. leaves-kids m n w hw go hg (done ++ (kid, v) ∷ []) kids (s || r) left k)
 
-after_kids-leaves : (d : Declarations) (v : Plain) (n : ℕ) (ks : List Plain) (s : Bool) (given : List Answer) → length given < n → Leaves n (after_kids d v ks s given)
+after_kids-leaves : (d : Declarations) (v : Plain) (n : ℕ) (ks : Children) (s : Bool) (given : List Answer) → length given < n → Leaves n (after_kids d v ks s given)
 after_kids-leaves d v n ks s given l = renewed-both (λ x y. Leaves n x) tt tt d v ks s given given end (λ u. l)
 
 after_all-leaves : (n : ℕ) (u : Plain) (s : Bool) (given : List Answer) → length given < suc n → Leaves n (node_after_all u s given)
@@ -179,7 +179,7 @@ up-leaves : (k : ℕ) (d : Declarations) → LeavesAll (bottom_up k d)
 up-leaves zero d v given = tt
 up-leaves (suc k) d v given = leaves-le (length given) (suc (length given)) (node_last d (bottom_up k d) v given) (omega arith) (last-leaves d (bottom_up k d) (up-leaves k d) v given)
 
--- Walks that are the same with fewer than so many answers.
+-- Children that are the same with fewer than so many answers.
 
 fewer-end : (n : ℕ) (x : Walked) (f g : Going) → Leaves n x → ((v : Plain) (s : Bool) (left : List Answer) → length left < n → f v s left ≡ g v s left) → on_end x f ≡ on_end x g
 fewer-end n (ask place u) f g l h = refl
@@ -197,13 +197,13 @@ abbrev AlikeBelow : ℕ → Walk → Walk → Type 0
 AlikeBelow n w z = (v : Plain) (given : List Answer) → length given < n → w v given ≡ z v given
 
 fewer-alike : (n : ℕ) (w z : Walk) → AlikeBelow n w z → LeavesAll w → (go : Finish)
-    → (done kids : List Plain) (s : Bool) (given : List Answer) → length given < n → each_kid w done kids s given go ≡ each_kid z done kids s given go
+    → (done : Children) (kids : List Plain) (s : Bool) (given : List Answer) → length given < n → each_kid w done kids s given go ≡ each_kid z done kids s given go
 fewer-alike n w z same hw go done [] s given l = refl
 fewer-alike n w z same hw go done (kid ∷ kids) s given l =
-    fewer-end n (in_child (length done) (w kid given)) (λ v r left. each_kid w (done ++ v ∷ []) kids (s || r) left go) (λ v r left. each_kid z (done ++ v ∷ []) kids (s || r) left go)
+    fewer-end n (in_child (length done) (w kid given)) (λ v r left. each_kid w (done ++ (kid, v) ∷ []) kids (s || r) left go) (λ v r left. each_kid z (done ++ (kid, v) ∷ []) kids (s || r) left go)
     (in_child-leaves n (length done) (w kid given) (leaves-le (suc (length given)) n (w kid given) (omega arith) (hw kid given)))
-    (λ v r left k. fewer-alike n w z same hw go (done ++ v ∷ []) kids (s || r) left k)
-    ∙ ap (λ x. on_end (in_child (length done) x) (λ v r left. each_kid z (done ++ v ∷ []) kids (s || r) left go)) (same kid given l)
+    (λ v r left k. fewer-alike n w z same hw go (done ++ (kid, v) ∷ []) kids (s || r) left k)
+    ∙ ap (λ x. on_end (in_child (length done) x) (λ v r left. each_kid z (done ++ (kid, v) ∷ []) kids (s || r) left go)) (same kid given l)
 
 first-alike : (d : Declarations) (w z : Walk) (v : Plain) (given : List Answer) → AlikeBelow (length given) w z → LeavesAll w → node_first d w v given ≡ node_first d z v given
 first-alike d w z v [] same hw = refl

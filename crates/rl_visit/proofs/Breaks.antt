@@ -5,11 +5,11 @@ use Rattle.rl_types.specs.Declarations.{Declarations}
 use Rattle.rl_value.specs.Kids.{kids as kids_of}
 use Rattle.rl_value.specs.Plain.{Plain, plain_height}
 use Rattle.rl_visit.specs.Laws.{IsServed, IsBelow, AsksNothingBelow, AsksNothingAbove}
-use Rattle.rl_visit.specs.Walk.{Answer, no, kept, changed, Position, Walked, ask, end, visit_type, too_large, Going, on_end, in_child, each_kid, top_down_break, bottom_up_break, walk}
+use Rattle.rl_visit.specs.Walk.{Children, Answer, no, kept, changed, Position, Walked, ask, end, visit_type, too_large, Going, on_end, in_child, each_kid, top_down_break, bottom_up_break, walk}
 use Rattle.rl_visit.proofs.Steps.{Finish, after_kids, node_after, node_after_kids, renewed-both}
 use Rattle.rl_visit.proofs.Bounds.{down_break-same}
 
-longer : (xs : List Plain) (v : Plain) → length (xs ++ v ∷ []) ≡ length xs + 1
+longer : (xs : Children) (v : Plain × Plain) → length (xs ++ v ∷ []) ≡ length xs + 1
 longer [] v = refl
 longer (x ∷ xs) v = omega (arith, longer xs v)
 
@@ -49,20 +49,20 @@ behind-step i n (end v s given) f l h = h v s given
 behind-step i n visit_type f l h = tt
 behind-step i n too_large f l h = tt
 
-behind-kids : (w : Plain → List Answer → Walked) (go : Finish) (i : ℕ) → ((ks : List Plain) (s : Bool) (given : List Answer) → NoAsk (go ks s given))
-    → (done kids : List Plain) (s : Bool) (given : List Answer) → i < length done → Behind i (each_kid w done kids s given go)
+behind-kids : (w : Plain → List Answer → Walked) (go : Finish) (i : ℕ) → ((ks : Children) (s : Bool) (given : List Answer) → NoAsk (go ks s given))
+    → (done : Children) (kids : List Plain) (s : Bool) (given : List Answer) → i < length done → Behind i (each_kid w done kids s given go)
 behind-kids w go i h done [] s given l = no_ask-behind i (go done s given) (h done s given)
 behind-kids w go i h done (kid ∷ kids) s given l =
-    behind-step i (length done) (w kid given) (λ v r left. each_kid w (done ++ v ∷ []) kids (s || r) left go) l
-    (λ v r left. behind-kids w go i h (done ++ v ∷ []) kids (s || r) left (omega (arith, longer done v)))
+    behind-step i (length done) (w kid given) (λ v r left. each_kid w (done ++ (kid, v) ∷ []) kids (s || r) left go) l
+    (λ v r left. behind-kids w go i h (done ++ (kid, v) ∷ []) kids (s || r) left (omega (arith, longer done (kid, v))))
 
 -- once something was served
-behind-kids-served : (w : Plain → List Answer → Walked) (go : Finish) (i : ℕ) → ((ks : List Plain) (given : List Answer) → NoAsk (go ks true given))
-    → (done kids : List Plain) (given : List Answer) → i < length done → Behind i (each_kid w done kids true given go)
+behind-kids-served : (w : Plain → List Answer → Walked) (go : Finish) (i : ℕ) → ((ks : Children) (given : List Answer) → NoAsk (go ks true given))
+    → (done : Children) (kids : List Plain) (given : List Answer) → i < length done → Behind i (each_kid w done kids true given go)
 behind-kids-served w go i h done [] given l = no_ask-behind i (go done true given) (h done given)
 behind-kids-served w go i h done (kid ∷ kids) given l =
-    behind-step i (length done) (w kid given) (λ v r left. each_kid w (done ++ v ∷ []) kids (true || r) left go) l
-    (λ v r left. behind-kids-served w go i h (done ++ v ∷ []) kids left (omega (arith, longer done v)))
+    behind-step i (length done) (w kid given) (λ v r left. each_kid w (done ++ (kid, v) ∷ []) kids (true || r) left go) l
+    (λ v r left. behind-kids-served w go i h (done ++ (kid, v) ∷ []) kids left (omega (arith, longer done (kid, v))))
 
 -- With more answers a walk that ended ends alike, and leaves them.
 
@@ -83,12 +83,12 @@ abbrev WalkExtends : List Answer → (Plain → List Answer → Walked) → Type
 WalkExtends more w = (v : Plain) (given : List Answer) → Extends more (w v given) (w v (given ++ more))
 
 extends-kids : (w : Plain → List Answer → Walked) (more : List Answer) → WalkExtends more w
-    → (go : Finish) → ((ks : List Plain) (s : Bool) (left : List Answer) → Extends more (go ks s left) (go ks s (left ++ more)))
-    → (done kids : List Plain) (s : Bool) (given : List Answer) → Extends more (each_kid w done kids s given go) (each_kid w done kids s (given ++ more) go)
+    → (go : Finish) → ((ks : Children) (s : Bool) (left : List Answer) → Extends more (go ks s left) (go ks s (left ++ more)))
+    → (done : Children) (kids : List Plain) (s : Bool) (given : List Answer) → Extends more (each_kid w done kids s given go) (each_kid w done kids s (given ++ more) go)
 extends-kids w more hw go hg done [] s given = hg done s given
 extends-kids w more hw go hg done (kid ∷ kids) s given =
-    extends-step more (length done) (w kid given) (w kid (given ++ more)) (λ v r left. each_kid w (done ++ v ∷ []) kids (s || r) left go) (hw kid given)
-    (λ v r left. extends-kids w more hw go hg (done ++ v ∷ []) kids (s || r) left)
+    extends-step more (length done) (w kid given) (w kid (given ++ more)) (λ v r left. each_kid w (done ++ (kid, v) ∷ []) kids (s || r) left go) (hw kid given)
+    (λ v r left. extends-kids w more hw go hg (done ++ (kid, v) ∷ []) kids (s || r) left)
 
 -- From above.
 
@@ -128,18 +128,18 @@ not_below-step more n visit_type y f a e h k = tt
 not_below-step more n too_large y f a e h k = tt
 
 not_below-kids : (w : Plain → List Answer → Walked) (more : List Answer) → ((kid : Plain) (given : List Answer) → NotBelow (w kid given) (w kid (given ++ more))) → WalkExtends more w
-    → (go : Finish) → ((ks : List Plain) (s : Bool) (given : List Answer) → NoAsk (go ks s given))
-    → (done kids : List Plain) (s : Bool) (given : List Answer) → NotBelow (each_kid w done kids s given go) (each_kid w done kids s (given ++ more) go)
+    → (go : Finish) → ((ks : Children) (s : Bool) (given : List Answer) → NoAsk (go ks s given))
+    → (done : Children) (kids : List Plain) (s : Bool) (given : List Answer) → NotBelow (each_kid w done kids s given go) (each_kid w done kids s (given ++ more) go)
 not_below-kids w more hw he go hg done [] s given = no_ask-not_below (go done s given) (go done s (given ++ more)) (hg done s given)
 not_below-kids w more hw he go hg done (kid ∷ kids) s given =
-    not_below-step more (length done) (w kid given) (w kid (given ++ more)) (λ v r left. each_kid w (done ++ v ∷ []) kids (s || r) left go) (hw kid given) (he kid given)
-    (λ v r left. not_below-kids w more hw he go hg (done ++ v ∷ []) kids (s || r) left)
-    (λ v r left. behind-kids w go (length done) hg (done ++ v ∷ []) kids (s || r) left (omega (arith, longer done v)))
+    not_below-step more (length done) (w kid given) (w kid (given ++ more)) (λ v r left. each_kid w (done ++ (kid, v) ∷ []) kids (s || r) left go) (hw kid given) (he kid given)
+    (λ v r left. not_below-kids w more hw he go hg (done ++ (kid, v) ∷ []) kids (s || r) left)
+    (λ v r left. behind-kids w go (length done) hg (done ++ (kid, v) ∷ []) kids (s || r) left (omega (arith, longer done (kid, v))))
 
-after_kids-no_ask : (d : Declarations) (v : Plain) (ks : List Plain) (s : Bool) (given : List Answer) → NoAsk (after_kids d v ks s given)
+after_kids-no_ask : (d : Declarations) (v : Plain) (ks : Children) (s : Bool) (given : List Answer) → NoAsk (after_kids d v ks s given)
 after_kids-no_ask d v ks s given = renewed-both (λ x y. NoAsk x) tt tt d v ks s given given end (λ u. tt)
 
-after_kids-extends : (more : List Answer) (d : Declarations) (v : Plain) (ks : List Plain) (s : Bool) (given : List Answer) → Extends more (after_kids d v ks s given) (after_kids d v ks s (given ++ more))
+after_kids-extends : (more : List Answer) (d : Declarations) (v : Plain) (ks : Children) (s : Bool) (given : List Answer) → Extends more (after_kids d v ks s given) (after_kids d v ks s (given ++ more))
 after_kids-extends more d v ks s given = renewed-both (Extends more) tt tt d v ks s given (given ++ more) end (λ u. refl)
 
 down-extends : (more : List Answer) (k : ℕ) (d : Declarations) → WalkExtends more (top_down_break k d)
@@ -202,11 +202,11 @@ ends_served-step n (end v s left) f h = h v s left
 ends_served-step n visit_type f h = tt
 ends_served-step n too_large f h = tt
 
-ends_served-kids : (w : Plain → List Answer → Walked) (go : Finish) → ((ks : List Plain) (given : List Answer) → EndsServed (go ks true given))
-    → (done kids : List Plain) (given : List Answer) → EndsServed (each_kid w done kids true given go)
+ends_served-kids : (w : Plain → List Answer → Walked) (go : Finish) → ((ks : Children) (given : List Answer) → EndsServed (go ks true given))
+    → (done : Children) (kids : List Plain) (given : List Answer) → EndsServed (each_kid w done kids true given go)
 ends_served-kids w go h done [] given = h done given
 ends_served-kids w go h done (kid ∷ kids) given =
-    ends_served-step (length done) (w kid given) (λ v r left. each_kid w (done ++ v ∷ []) kids (true || r) left go) (λ v r left. ends_served-kids w go h (done ++ v ∷ []) kids left)
+    ends_served-step (length done) (w kid given) (λ v r left. each_kid w (done ++ (kid, v) ∷ []) kids (true || r) left go) (λ v r left. ends_served-kids w go h (done ++ (kid, v) ∷ []) kids left)
 
 ends_served-serves : (p : Position) (u : Plain) (x : Walked) → EndsServed x → Serves (ask p u) x
 ends_served-serves p u (ask q w) h = tt
@@ -227,13 +227,13 @@ serves-step more n visit_type y f a e h k = tt
 serves-step more n too_large y f a e h k = tt
 
 serves-kids : (w : Plain → List Answer → Walked) (more : List Answer) → ((kid : Plain) (given : List Answer) → Serves (w kid given) (w kid (given ++ more))) → WalkExtends more w
-    → (go : Finish) → ((ks : List Plain) (s : Bool) (given : List Answer) → Serves (go ks s given) (go ks s (given ++ more))) → ((ks : List Plain) (given : List Answer) → EndsServed (go ks true given))
-    → (done kids : List Plain) (s : Bool) (given : List Answer) → Serves (each_kid w done kids s given go) (each_kid w done kids s (given ++ more) go)
+    → (go : Finish) → ((ks : Children) (s : Bool) (given : List Answer) → Serves (go ks s given) (go ks s (given ++ more))) → ((ks : Children) (given : List Answer) → EndsServed (go ks true given))
+    → (done : Children) (kids : List Plain) (s : Bool) (given : List Answer) → Serves (each_kid w done kids s given go) (each_kid w done kids s (given ++ more) go)
 serves-kids w more hw he go hg ht done [] s given = hg done s given
 serves-kids w more hw he go hg ht done (kid ∷ kids) s given =
-    serves-step more (length done) (w kid given) (w kid (given ++ more)) (λ v r left. each_kid w (done ++ v ∷ []) kids (s || r) left go) (hw kid given) (he kid given)
-    (λ v r left. serves-kids w more hw he go hg ht (done ++ v ∷ []) kids (s || r) left)
-    (λ v left. subst (λ b. EndsServed (each_kid w (done ++ v ∷ []) kids b left go)) (sym (or-true s)) (ends_served-kids w go ht (done ++ v ∷ []) kids left))
+    serves-step more (length done) (w kid given) (w kid (given ++ more)) (λ v r left. each_kid w (done ++ (kid, v) ∷ []) kids (s || r) left go) (hw kid given) (he kid given)
+    (λ v r left. serves-kids w more hw he go hg ht (done ++ (kid, v) ∷ []) kids (s || r) left)
+    (λ v left. subst (λ b. EndsServed (each_kid w (done ++ (kid, v) ∷ []) kids b left go)) (sym (or-true s)) (ends_served-kids w go ht (done ++ (kid, v) ∷ []) kids left))
 
 behind-not_above : (n : ℕ) (p : Position) (u : Plain) (x : Walked) → Behind n x → NotAbove (ask (n ∷ p) u) x
 behind-not_above n p u (ask [] w) h = absurd h
@@ -256,13 +256,13 @@ not_above-step more n too_large y f a m e h k = tt
 
 not_above-kids : (w : Plain → List Answer → Walked) (more : List Answer) → ((kid : Plain) (given : List Answer) → NotAbove (w kid given) (w kid (given ++ more)))
     → ((kid : Plain) (given : List Answer) → Serves (w kid given) (w kid (given ++ more))) → WalkExtends more w
-    → (go : Finish) → ((ks : List Plain) (s : Bool) (given : List Answer) → NotAbove (go ks s given) (go ks s (given ++ more))) → ((ks : List Plain) (given : List Answer) → NoAsk (go ks true given))
-    → (done kids : List Plain) (s : Bool) (given : List Answer) → NotAbove (each_kid w done kids s given go) (each_kid w done kids s (given ++ more) go)
+    → (go : Finish) → ((ks : Children) (s : Bool) (given : List Answer) → NotAbove (go ks s given) (go ks s (given ++ more))) → ((ks : Children) (given : List Answer) → NoAsk (go ks true given))
+    → (done : Children) (kids : List Plain) (s : Bool) (given : List Answer) → NotAbove (each_kid w done kids s given go) (each_kid w done kids s (given ++ more) go)
 not_above-kids w more hw hs he go hg hn done [] s given = hg done s given
 not_above-kids w more hw hs he go hg hn done (kid ∷ kids) s given =
-    not_above-step more (length done) (w kid given) (w kid (given ++ more)) (λ v r left. each_kid w (done ++ v ∷ []) kids (s || r) left go) (hw kid given) (hs kid given) (he kid given)
-    (λ v r left. not_above-kids w more hw hs he go hg hn (done ++ v ∷ []) kids (s || r) left)
-    (λ v left. subst (λ b. Behind (length done) (each_kid w (done ++ v ∷ []) kids b left go)) (sym (or-true s)) (behind-kids-served w go (length done) hn (done ++ v ∷ []) kids left (omega (arith, longer done v))))
+    not_above-step more (length done) (w kid given) (w kid (given ++ more)) (λ v r left. each_kid w (done ++ (kid, v) ∷ []) kids (s || r) left go) (hw kid given) (hs kid given) (he kid given)
+    (λ v r left. not_above-kids w more hw hs he go hg hn (done ++ (kid, v) ∷ []) kids (s || r) left)
+    (λ v left. subst (λ b. Behind (length done) (each_kid w (done ++ (kid, v) ∷ []) kids b left go)) (sym (or-true s)) (behind-kids-served w go (length done) hn (done ++ (kid, v) ∷ []) kids left (omega (arith, longer done (kid, v)))))
 
 node-extends : (more : List Answer) (u : Plain) (s : Bool) (given : List Answer) → Extends more (node_after u s given) (node_after u s (given ++ more))
 node-extends more u true given = refl

@@ -1,13 +1,13 @@
 -- Steps of walks: what follows after the children, and renewal.
 use Rattle.std.proofs.Common.{Bool, true, false, ◌||◌, if◌then◌else◌, List}
 use Rattle.rl_types.specs.Declarations.{Declarations}
-use Rattle.rl_value.specs.Kids.{kids as kids_of, renew}
+use Rattle.rl_value.specs.Kids.{renew}
 use Rattle.rl_value.specs.Plain.{Plain}
-use Rattle.rl_visit.specs.Walk.{Answer, Walked, end, visit_type, too_large, Going, at_node, same_values, may_have, fits, renewed}
+use Rattle.rl_visit.specs.Walk.{Children, Answer, Walked, end, visit_type, too_large, Going, at_node, came_of, is_unchanged, may_have, fits, renewed}
 
 -- what follows after all children
 abbrev pub Finish : Type 0
-Finish = List Plain → Bool → List Answer → Walked
+Finish = Children → Bool → List Answer → Walked
 
 -- what follows after the children in a walk from above
 abbrev pub after_kids : Declarations → Plain → Finish
@@ -29,10 +29,10 @@ choose : (R : Walked → Walked → Type 0) (b : Bool) (x y x' y' : Walked) → 
 choose R true x y x' y' h k = h
 choose R false x y x' y' h k = k
 
-pub renewed-both : (R : Walked → Walked → Type 0) → R visit_type visit_type → R too_large too_large → (d : Declarations) (v : Plain) (ks : List Plain) (s : Bool) (given given' : List Answer) (go : Going)
+pub renewed-both : (R : Walked → Walked → Type 0) → R visit_type visit_type → R too_large too_large → (d : Declarations) (v : Plain) (ks : Children) (s : Bool) (given given' : List Answer) (go : Going)
     → ((u : Plain) → R (go u s given) (go u s given')) → R (renewed d v ks s given go) (renewed d v ks s given' go)
 renewed-both R hv ht d v ks s given given' go h =
-    choose R (same_values (kids_of v) ks) (go v s given) (if may_have d v ks then (if fits (renew v ks) then go (renew v ks) s given else too_large) else visit_type)
-    (go v s given') (if may_have d v ks then (if fits (renew v ks) then go (renew v ks) s given' else too_large) else visit_type) (h v)
-    (choose R (may_have d v ks) (if fits (renew v ks) then go (renew v ks) s given else too_large) visit_type (if fits (renew v ks) then go (renew v ks) s given' else too_large) visit_type
-    (choose R (fits (renew v ks)) (go (renew v ks) s given) too_large (go (renew v ks) s given') too_large (h (renew v ks)) ht) hv)
+    choose R (is_unchanged ks) (go v s given) (if may_have d v ks then (if fits (renew v (came_of ks)) then go (renew v (came_of ks)) s given else too_large) else visit_type)
+    (go v s given') (if may_have d v ks then (if fits (renew v (came_of ks)) then go (renew v (came_of ks)) s given' else too_large) else visit_type) (h v)
+    (choose R (may_have d v ks) (if fits (renew v (came_of ks)) then go (renew v (came_of ks)) s given else too_large) visit_type (if fits (renew v (came_of ks)) then go (renew v (came_of ks)) s given' else too_large) visit_type
+    (choose R (fits (renew v (came_of ks))) (go (renew v (came_of ks)) s given) too_large (go (renew v (came_of ks)) s given') too_large (h (renew v (came_of ks))) ht) hv)

@@ -1,5 +1,6 @@
 -- A walk over the nodes of a value in the order of a strategy, by lists of answers.
-use Rattle.std.specs.Prelude.{ℕ, zero, suc, Bool, true, false, ◌||◌, ◌&&◌, if◌then◌else◌, nat_le, ◌^◌, List, [], ◌∷◌, ◌++◌, length, Option, Some, None, bytes_eq}
+use Rattle.std.specs.Prelude.{ℕ, zero, suc, Bool, true, false, ◌||◌, ◌&&◌, if◌then◌else◌, nat_le, ◌^◌, List, [], ◌∷◌, ◌++◌, length, map, Option, Some, None, bytes_eq}
+use Rattle.std.specs.List.{list_all, zip}
 use Rattle.rl_syntax.specs.declared.operator.Strategy.{Strategy}
 use Rattle.rl_syntax.specs.declared.operator.Strategy.TheVariants.{Innermost, Outermost, TopDown, TopDownBreak, BottomUp, BottomUpBreak}
 use Rattle.rl_value.specs.Plain.{Plain, node, tree, plain_size, plain_height}
@@ -57,20 +58,23 @@ at_node v (no ∷ given) go = go v false given
 at_node v (kept ∷ given) go = go v true given
 at_node v (changed u ∷ given) go = go u true given
 
--- a walk of each child, from the left; `done` are the children that came of those before
-abbrev pub each_kid : (Plain → List Answer → Walked) → (done kids : List Plain) → Bool → List Answer → (List Plain → Bool → List Answer → Walked) → Walked
+-- the children, each with what came of it, so that neither is without the other
+abbrev pub Children : Type 0
+Children = List (Plain × Plain)
+
+-- a walk of each child, from the left, after those that are done
+abbrev pub each_kid : (Plain → List Answer → Walked) → Children → List Plain → Bool → List Answer → (Children → Bool → List Answer → Walked) → Walked
 each_kid walk done [] served given go = go done served given
 each_kid walk done (kid ∷ kids) served given go =
-    on_end (in_child (length done) (walk kid given)) (λ v s left. each_kid walk (done ++ v ∷ []) kids (served || s) left go)
+    on_end (in_child (length done) (walk kid given)) (λ v s left. each_kid walk (done ++ (kid, v) ∷ []) kids (served || s) left go)
 
 -- Renewal.
 
--- the types of the fields, as far as they are declared
+-- each field has its type; there are as many, since the constructor was found by their number
 abbrev pub fields_have : Declarations → List (List ℕ × PlainType) → List Plain → Bool
-fields_have d [] vs = true
-fields_have d (field ∷ fields) [] = true
-fields_have d (field ∷ fields) (v ∷ vs) = has d v field.1 && fields_have d fields vs
+fields_have d fields vs = list_all (λ p. has d p.1 p.0.1) (zip fields vs)
 
+-- the types of the fields, as far as they are declared
 abbrev pub constructor_has : Declarations → Option Constructor → List Plain → Bool
 constructor_has d None vs = true
 constructor_has d (Some c) vs = fields_have d c.fields vs
@@ -84,22 +88,18 @@ abbrev pub takes_place : Plain → Plain → Bool
 takes_place (tree shape ts) v = is_of_sort shape.sort v
 takes_place u v = false
 
-abbrev pub take_places : List Plain → List Plain → Bool
-take_places [] vs = true
-take_places (u ∷ us) [] = true
-take_places (u ∷ us) (v ∷ vs) = takes_place u v && take_places us vs
+-- what came of the children
+abbrev pub came_of : Children → List Plain
+came_of ks = map (λ k. k.1) ks
 
--- whether the value may have these children
-abbrev pub may_have : Declarations → Plain → List Plain → Bool
-may_have d (node name ts) ks = constructor_has d (constructor d name (length ks)) ks
-may_have d (tree shape ts) ks = take_places (kids_of (tree shape ts)) ks
+-- whether the value may have what came of its children in their place
+abbrev pub may_have : Declarations → Plain → Children → Bool
+may_have d (node name ts) ks = constructor_has d (constructor d name (length ks)) (came_of ks)
+may_have d (tree shape ts) ks = list_all (λ k. takes_place k.0 k.1) ks
 may_have d v ks = true
 
-abbrev pub same_values : List Plain → List Plain → Bool
-same_values [] [] = true
-same_values [] (v ∷ vs) = false
-same_values (u ∷ us) [] = false
-same_values (u ∷ us) (v ∷ vs) = plain_eq u v && same_values us vs
+abbrev pub is_unchanged : Children → Bool
+is_unchanged ks = list_all (λ k. plain_eq k.0 k.1) ks
 
 abbrev pub fits : Plain → Bool
 fits v = nat_le (plain_size v) (2 ^ 24) && nat_le (plain_height v) 2000
@@ -107,11 +107,11 @@ fits v = nat_le (plain_size v) (2 ^ 24) && nat_le (plain_height v) 2000
 abbrev pub fitting : Plain → Bool → List Answer → Going → Walked
 fitting v served given go = if fits v then go v served given else too_large
 
--- where a child changed, the value with these children: first they are tested, and then the limits
-abbrev pub renewed : Declarations → Plain → List Plain → Bool → List Answer → Going → Walked
+-- where a child changed, the value with what came of them: first they are tested, and then the limits
+abbrev pub renewed : Declarations → Plain → Children → Bool → List Answer → Going → Walked
 renewed d v ks served given go =
-    if same_values (kids_of v) ks then go v served given
-    else if may_have d v ks then fitting (renew v ks) served given go
+    if is_unchanged ks then go v served given
+    else if may_have d v ks then fitting (renew v (came_of ks)) served given go
     else visit_type
 
 -- The strategies, by a walk of the children.
@@ -149,7 +149,7 @@ abbrev pub once_more : (Plain → List Answer → Walked) → Going → Going
 once_more walk go v served given =
     on_end (walk v given) (λ u s left. if plain_eq v u then end u (served || s) left else go u (served || s) left)
 
--- A number bounds how often a walk nests. Walks from below nest no deeper than the value is high, and each other walk takes an answer before it nests: so no bound is reached (`WalksAreByForm`).
+-- A number bounds how often a walk nests. Children from below nest no deeper than the value is high, and each other walk takes an answer before it nests: so no bound is reached (`WalksAreByForm`).
 
 abbrev pub bottom_up : ℕ → Declarations → Plain → List Answer → Walked
 bottom_up zero d v given = ask [] v
