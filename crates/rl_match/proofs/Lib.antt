@@ -1,3 +1,4 @@
 pub mod Levels
 pub mod Equations
 pub mod Kids
+mod Outside
