@@ -10,6 +10,11 @@ pub mod Runs
 pub mod Nests
 pub mod Fronts
 pub mod Scopes
-pub mod Ends
+mod Counts
+mod Ends
+mod EndsOfConditions
+mod EndsOfCases
+mod EndsOfCalls
+mod EndsOfForms
 pub mod Numbered
 pub mod OwnModules
