@@ -96,6 +96,10 @@ target op path x = use_of x
 abbrev pub provided : Bool → Naming → Naming
 provided holds part names = let it = part names in record it { right = holds && it.right }
 
+-- the hole of a fragment in an expression asks for a variable, and tests none
+abbrev pub hole : PatternVariable → Naming
+hole x = provided (not x.is_test) (used x.name x.number)
+
 -- a variable with its type is always new
 abbrev pub typed_variable : PatternVariable → Naming
 typed_variable x = provided (not x.is_test) (declares x.name x.number)
@@ -190,7 +194,7 @@ of_expression_form (e.Location place path) = nothing
 of_expression_form (e.Truth place b) = nothing
 of_expression_form (e.It place) = nothing
 of_expression_form (e.Visit place strategy subject cs ty) = each (subject ∷ cs)
-of_expression_form (e.Fragment place fragment) = in_turn (map (λ x. used x.name x.number) (in_holes fragment.pieces))
+of_expression_form (e.Fragment place fragment) = in_turn (map hole (in_holes fragment.pieces))
 of_expression_form (e.Parenthesized place x) = x
 of_expression_form (e.Reducer place start step cs) = and_then (scope start) (under cs (step ∷ []))
 of_expression_form (e.Map place entries) = each (flat_map of_entry entries)

@@ -1,7 +1,7 @@
 //! Small programs, evaluated.
 
 ghost use Rattle.rl_base.specs.Holds.{FileMap};
-ghost use Rattle.rl_rules.specs.NumberingExamples.{NumbersOfNames, NumbersInsideNegations, AreTheSameCleared};
+ghost use Rattle.rl_rules.specs.NumberingExamples.{AreTheSameCleared, ConditionsGovern, HolesAreNew, HolesAreNoTests, NumbersInsideNegations, NumbersOfNames, OnlySettingDeclares, StarsServeLast};
 ghost use Rattle.rl_rules.specs.Examples.{OneLine, FinallyAfterReturn, FinallyThrows, Counting, WithoutValue, OutOfRange, FallingBack, LeavingLoop, Handled, FinallyAtACut, NextAlternative, FalseCondition, ThreeElements, Reducing, TakenBack, FixedAtStart, Divided, FalseUnderMember, OtherAlternative, TestWithoutValue, SecondHandler, DeepestCall, Parsing, Collecting, Exchanging, ChangingInside, JoinedConditions, UnderConditions, Solving, Extending, AppendingInConditions, AppendingInBody, AppendingInTests, Testing, Visiting, SixStrategies};
 
 /// A program of one line takes five units, and prints nothing with four.
@@ -189,4 +189,15 @@ pub fn numbering()
     ensures names { NumbersOfNames }
     ensures negations { NumbersInsideNegations }
     ensures cleared { AreTheSameCleared }
+{}
+
+/// Which names are visible where: the stars of a set pattern serve last, `else` and the body of `do` see nothing of the
+/// conditions, and only `x = e` and the assignment of a tuple declare. The holes of a pattern are new, and those of an
+/// expression test nothing.
+pub fn visible_names()
+    ensures stars { StarsServeLast }
+    ensures conditions { ConditionsGovern }
+    ensures assignments { OnlySettingDeclares }
+    ensures new_holes { HolesAreNew }
+    ensures holes { HolesAreNoTests }
 {}
