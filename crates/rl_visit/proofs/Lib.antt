@@ -1,3 +1,4 @@
 mod Steps
 mod Bounds
 mod Breaks
+mod Fields

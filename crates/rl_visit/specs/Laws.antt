@@ -1,8 +1,9 @@
 -- What holds of walks.
-use Rattle.std.specs.Prelude.{◌≡◌, ⊤, Bool, false, List, [], ◌∷◌, ◌++◌}
+use Rattle.std.specs.Prelude.{◌≡◌, ℕ, ⊤, Bool, false, List, [], ◌∷◌, ◌++◌, length}
+use Rattle.std.specs.Option.{IfSome}
 use Rattle.rl_syntax.specs.declared.operator.Strategy.{Strategy}
 use Rattle.rl_syntax.specs.declared.operator.Strategy.TheVariants.{Innermost, Outermost, TopDown, TopDownBreak, BottomUp, BottomUpBreak}
-use Rattle.rl_types.specs.Declarations.{Declarations}
+use Rattle.rl_types.specs.Declarations.{Declarations, constructor}
 use Rattle.rl_value.specs.Plain.{Plain}
 use Rattle.rl_visit.specs.Walk.{Answer, no, kept, changed, Position, ask, node_last, node_last_break, node_first, node_first_break, once_more, repeated, walk}
 
@@ -18,6 +19,10 @@ pub record WalksAreByForm (d : Declarations) : Type 0 where
   pub outermost : (v : Plain) (given : List Answer) → walk d Outermost v given ≡ repeated (walk d TopDown) v false given
   pub from_above : (v : Plain) (served : Bool) (given : List Answer)
       → repeated (walk d TopDown) v served given ≡ once_more (walk d TopDown) (repeated (walk d TopDown)) v served given
+
+-- The constructor that is found by the number of values has as many fields, so that in a renewal each value is asked for the type of its field.
+abbrev pub FieldsAreAsMany : Type 0
+FieldsAreAsMany = (d : Declarations) (name : List ℕ) (count : ℕ) → IfSome (constructor d name count) (λ c. length c.fields ≡ count)
 
 -- The `break` strategies.
 

@@ -70,7 +70,7 @@ each_kid walk done (kid ∷ kids) served given go =
 
 -- Renewal.
 
--- each field has its type; there are as many, since the constructor was found by their number
+-- each field has its type; there are as many, since the constructor was found by their number (`FieldsAreAsMany`)
 abbrev pub fields_have : Declarations → List (List ℕ × PlainType) → List Plain → Bool
 fields_have d fields vs = list_all (λ p. has d p.1 p.0.1) (zip fields vs)
 
@@ -83,7 +83,7 @@ abbrev pub is_of_sort : List ℕ → Plain → Bool
 is_of_sort sort (tree shape ts) = bytes_eq sort shape.sort
 is_of_sort sort v = false
 
--- a tree of the sort of the one whose place it takes
+-- a tree of the sort of the one whose place it takes; the children of a tree are trees
 abbrev pub takes_place : Plain → Plain → Bool
 takes_place (tree shape ts) v = is_of_sort shape.sort v
 takes_place u v = false
