@@ -1,1 +1,2 @@
+-- What holds of reading.
 pub mod Laws
