@@ -7,7 +7,7 @@ use Rattle.std.specs.FinMap.{get}
 use Rattle.std.proofs.Math.Dec.{eqb-suc-zero, eqb-zero-suc, eqb-suc-suc}
 use Rattle.rl_value.specs.Plain.{Plain}
 use Rattle.rl_store.specs.Scope.{Scope, changed, value_at, changed_at, value_of, place_of}
-use Rattle.rl_store.specs.Rooms.{Variables, Rooms, LastNotes, has_room, HasRoom, last_note_in, last_note_at, KeepsLastNotes, SetsLastNote}
+use Rattle.rl_store.specs.Rooms.{Variables, Rooms, LastNotes, has_room, HasRoom, last_note_in, last_note_at, KeepsLastNotes, KeepsOtherNotes, SetsLastNote}
 
 abbrev pub scopes_of : List Variables → List Scope
 scopes_of vs = map (λ v. v.scope) vs
@@ -329,3 +329,52 @@ pub push_keeps : (f : Variables) (vs ws : List Variables) (v : Variables) (r : R
 push_keeps f vs ws v r e i h =
     let P : Rooms × List Variables → Type 0 = λ t. KeepsLastNotes t.0.last_notes (f.last_notes ∷ last_notes_in t.1) in
     subst P (λ j. (e j, sym i j)) (keeps-first f.last_notes (last_notes_in vs) (last_notes_in (vs ++ v ∷ [])) (keeps-push vs v h))
+
+-- a variable of one scope is set, and the last notes of the others stay
+
+abbrev pub KeepsOthers : LastNotes → LastNotes → ℕ → Type 0
+KeepsOthers old new variable = (x : ℕ) → (variable == x) ≡ false → last_note_in new x ≡ last_note_in old x
+
+last_note_at-set : (vs : List Variables) (p x : ℕ) (v : Variables) → p < length vs → last_note_at (last_notes_in (set vs p v)) p x ≡ last_note_in v.last_notes x
+last_note_at-set [] p x v h = absurd (omega arith)
+last_note_at-set (w ∷ vs) zero x v h = refl
+last_note_at-set (w ∷ vs) (suc p) x v h = last_note_at-set vs p x v (omega arith)
+
+pub inner_now_last : (f : Variables) (vs : List Variables) (p x : ℕ) (v : Variables) → p ≢ 0 → p - 1 < length vs → last_note_at (f.last_notes ∷ last_notes_in (set vs (p - 1) v)) p x ≡ last_note_in v.last_notes x
+inner_now_last f vs p x v n h = last_note_at-inner f.last_notes (last_notes_in (set vs (p - 1) v)) p x n ∙ last_note_at-set vs (p - 1) x v h
+
+others_zero : (a b : LastNotes) (ls : List LastNotes) (x : ℕ) → KeepsOthers a b x → KeepsOtherNotes (a ∷ ls) (b ∷ ls) zero x
+others_zero a b ls x h zero y e = h y e
+others_zero a b ls x h (suc q) y e = refl
+
+others_suc : (a : LastNotes) (ls ks : List LastNotes) (p x : ℕ) → KeepsOtherNotes ls ks p x → KeepsOtherNotes (a ∷ ls) (a ∷ ks) (suc p) x
+others_suc a ls ks p x h zero y e = refl
+others_suc a ls ks p x h (suc q) y e = h q y (ap (λ b. b && (x == y)) (sym (eqb-suc-suc p q)) ∙ e)
+
+others-set : (vs : List Variables) (p x : ℕ) (v d : Variables) → p < length vs → KeepsOthers (get_or vs p d).last_notes v.last_notes x → KeepsOtherNotes (last_notes_in vs) (last_notes_in (set vs p v)) p x
+others-set [] p x v d h e = absurd (omega arith)
+others-set (w ∷ vs) zero x v d h e = others_zero w.last_notes v.last_notes (last_notes_in vs) x e
+others-set (w ∷ vs) (suc p) x v d h e = others_suc w.last_notes (last_notes_in vs) (last_notes_in (set vs p v)) p x (others-set vs p x v d (omega arith) e)
+
+others-inner : (a : LastNotes) (ls ks : List LastNotes) (p x : ℕ) → p ≢ 0 → KeepsOtherNotes ls ks (p - 1) x → KeepsOtherNotes (a ∷ ls) (a ∷ ks) p x
+others-inner a ls ks zero x n h = absurd (n refl)
+others-inner a ls ks (suc p) x n h = let P : ℕ → Type 0 = λ q. KeepsOtherNotes ls ks q x in others_suc a ls ks p x (subst P (one_less p) h)
+
+pub inner_others : (f : Variables) (vs : List Variables) (r : Rooms) (p x : ℕ) (v d : Variables) → whole f vs ≡ r → p ≢ 0 → p - 1 < length vs → d ≡ get_or vs (p - 1) d → KeepsOthers d.last_notes v.last_notes x → KeepsOtherNotes r.last_notes (f.last_notes ∷ last_notes_in (set vs (p - 1) v)) p x
+inner_others f vs r p x v d e n h i s =
+    let P : Rooms → Type 0 = λ r. KeepsOtherNotes r.last_notes (f.last_notes ∷ last_notes_in (set vs (p - 1) v)) p x in
+    let D : Variables → Type 0 = λ w. KeepsOthers w.last_notes v.last_notes x in
+    subst P e (others-inner f.last_notes (last_notes_in vs) (last_notes_in (set vs (p - 1) v)) p x n (others-set vs (p - 1) x v d h (subst D i s)))
+
+pub first_others : (f g : Variables) (vs : List Variables) (r : Rooms) (p x : ℕ) → whole f vs ≡ r → p ≡ 0 → KeepsOthers f.last_notes g.last_notes x → KeepsOtherNotes r.last_notes (g.last_notes ∷ last_notes_in vs) p x
+first_others f g vs r p x e z s =
+    let P : Rooms × ℕ → Type 0 = λ t. KeepsOtherNotes t.0.last_notes (g.last_notes ∷ last_notes_in vs) t.1 x in
+    subst P (λ i. (e i, sym z i)) (others_zero f.last_notes g.last_notes (last_notes_in vs) x s)
+
+-- the value in the innermost scope that has the variable
+pub innermost : (ss : List Scope) (p x : ℕ) (r : Option (Bor Plain)) → value_of (drop (suc p) ss) x ≡ None → option_copied r ≡ value_at ss p x → is_some r ≡ true → option_copied r ≡ value_of ss x
+innermost ss p x r n e b = e ∙ ap (λ q. value_at ss q x) (sym (found ss p x r n e b)) ∙ value_at-place_of ss x
+
+-- no scope from a place on has it, since that at the place does not
+pub one_more_without : (ss : List Scope) (p x : ℕ) (r : Option (Bor Plain)) → value_of (drop (suc p) ss) x ≡ None → option_copied r ≡ value_at ss p x → is_some r ≡ false → value_of (drop p ss) x ≡ None
+one_more_without ss p x r n e b = value_of-drop ss p x n (sym e ∙ is_some-None (option_copied r) (is_some-copied r ∙ b))

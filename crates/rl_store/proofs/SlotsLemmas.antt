@@ -1,6 +1,7 @@
 -- The variables of one scope, after a change of its map.
-use Rattle.std.proofs.Common.{◌≡◌, ℕ, ◌==◌, Bool, true, false, cond, List, [], ◌∷◌, Option, Some, None, refl, sym, ap, ◌∙◌, subst, eqb-true}
+use Rattle.std.proofs.Common.{◌≡◌, ℕ, ◌==◌, Bool, true, false, cond, List, [], ◌∷◌, Option, Some, None, refl, sym, ap, ◌∙◌, subst, eqb-true, Result, Ok, Err}
 use Rattle.std.specs.Bool.{IsTrue}
+use Rattle.std.specs.Result.{OnOk, OnErr}
 use Rattle.std.specs.Option.{is_some, IsSome, unwrap_or}
 use Rattle.std.specs.Ordering.{nat_cmp, is_eq}
 use Rattle.std.specs.Cmp.{nat_cmp_total}
@@ -12,7 +13,7 @@ use Rattle.std.proofs.lemmas.Map.Made.{is_some-lookup}
 use Rattle.rl_value.specs.Plain.{Plain}
 use Rattle.rl_store.specs.declared.slots.Slot.{Slot}
 use Rattle.rl_store.specs.Scope.{changed}
-use Rattle.rl_store.specs.Rooms.{has_room, last_note_in}
+use Rattle.rl_store.specs.Rooms.{Variables, has_room, last_note_in}
 use Rattle.rl_store.specs.Slots.{values_of, rooms_of, last_notes_of, value_in}
 use Rattle.rl_store.proofs.Laying.{get-changed, is_eq-Equal}
 use Rattle.rl_store.proofs.LastNotes.{turned, nat_cmp-eqb}
@@ -140,3 +141,69 @@ some_known s (Some t) e = refl
 
 pub is_known : (m : BTreeMap ℕ Slot) (x : ℕ) (s : Slot) → Some s ≡ tree.get nat_cmp m x → IsSome (tree.get nat_cmp m x)
 is_known m x s e = some_known s (tree.get nat_cmp m x) e
+
+pub on_ok : {A E : Type 0} {P Q : Type 0} (r : Result A E) → (P → Q) → OnOk r P → OnOk r Q
+on_ok (Ok a) f h = f h
+on_ok (Err e) f h = h
+
+pub on_err : {A E : Type 0} {P Q : Type 0} (r : Result A E) → (P → Q) → OnErr r P → OnErr r Q
+on_err (Ok a) f h = h
+on_err (Err e) f h = f h
+
+pub on_both : {A E : Type 0} {P Q R : Type 0} (r : Result A E) → (P → Q → R) → OnOk r P → OnOk r Q → OnOk r R
+on_both (Ok a) f h k = f h k
+on_both (Err e) f h k = h
+
+pub err_both : {A E : Type 0} {P Q R : Type 0} (r : Result A E) → (P → Q → R) → OnErr r P → OnErr r Q → OnErr r R
+err_both (Ok a) f h k = h
+err_both (Err e) f h k = f h k
+
+pub ok_pair : {A E : Type 0} (P Q : Type 0) (r : Result A E) → OnOk r P → OnOk r Q → OnOk r (P × Q)
+ok_pair P Q (Ok a) h k = (h, k)
+ok_pair P Q (Err e) h k = h
+
+pub err_pair : {A E : Type 0} (P Q : Type 0) (r : Result A E) → OnErr r P → OnErr r Q → OnErr r (P × Q)
+err_pair P Q (Ok a) h k = h
+err_pair P Q (Err e) h k = (h, k)
+
+pub either_way : {A E : Type 0} {P Q R : Type 0} (r : Result A E) → OnOk r P → OnErr r Q → (P → R) → (Q → R) → R
+either_way (Ok a) h k f g = f h
+either_way (Err e) h k f g = g k
+
+pub in_any : {A E : Type 0} {P : Type 0} (r : Result A E) → P → OnOk r P
+in_any (Ok a) h = h
+in_any (Err e) h = tt
+
+-- the slot of a variable has its last note and its value
+pub slot_last : (m : BTreeMap ℕ Slot) (x : ℕ) (s : Slot) → Some s ≡ tree.get nat_cmp m x → last_note_in (last_notes_of m.entries) x ≡ s.last_note
+slot_last m x s e = last_note_in-last_notes_of x m.entries ∙ ap last_in (sym e)
+
+pub slot_value : (m : BTreeMap ℕ Slot) (x : ℕ) (s : Slot) → Some s ≡ tree.get nat_cmp m x → get (values_of m.entries) x ≡ s.value
+slot_value m x s e = get-values_of x m.entries ∙ ap value_in (sym e)
+
+-- what a map holds whose slot of x became another, of what it held
+module _ (m n : BTreeMap ℕ Slot) (x : ℕ) (old new : Slot) (v : Variables)
+    (view : record { scope = values_of m.entries; room = rooms_of m.entries; last_notes = last_notes_of m.entries } ≡ v)
+    (known : Some old ≡ tree.get nat_cmp m x) (u : Updates nat_cmp m n x (Some new)) where
+  pub had_last : last_note_in v.last_notes x ≡ old.last_note
+  had_last = sym (ap (λ (v : Variables). last_note_in v.last_notes x) view) ∙ slot_last m x old known
+
+  pub had_value : get v.scope x ≡ old.value
+  had_value = sym (ap (λ (v : Variables). get v.scope x) view) ∙ slot_value m x old known
+
+  pub now_scope : (o : Option Plain) → new.value ≡ o → values_of n.entries ≡ changed v.scope x o
+  now_scope o e = values-insert m n x new u ∙ ap (λ o. changed (values_of m.entries) x o) e ∙ ap (λ (v : Variables). changed v.scope x o) view
+
+  pub now_last : last_note_in (last_notes_of n.entries) x ≡ new.last_note
+  now_last = slot_last n x new (sym u.1)
+
+  pub other_last : (q : ℕ) → (x == q) ≡ false → last_note_in (last_notes_of n.entries) q ≡ last_note_in v.last_notes q
+  other_last q e =
+      last_notes-insert m n x new u q ∙ ap (λ b. cond b new.last_note (last_note_in (last_notes_of m.entries) q)) e
+      ∙ ap (λ (v : Variables). last_note_in v.last_notes q) view
+
+  pub same_scope : new ≡ old → values_of n.entries ≡ v.scope
+  same_scope e = values-same m n x old new u known (ap (λ (s : Slot). s.value) e) ∙ ap (λ (v : Variables). v.scope) view
+
+  pub same_last_note : new ≡ old → last_note_in (last_notes_of n.entries) x ≡ last_note_in v.last_notes x
+  same_last_note e = now_last ∙ ap (λ (s : Slot). s.last_note) e ∙ sym had_last

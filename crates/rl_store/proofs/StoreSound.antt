@@ -1,5 +1,5 @@
 -- What a store stands for, after each call.
-use Rattle.std.proofs.Common.{◌≡◌, ℕ, zero, suc, ◌-◌, ◌<◌, ◌≤◌, ◌↔◌, List, [], ◌∷◌, ◌++◌, length, take, drop, reverse, Option, Some, None, refl, sym, ap, ◌∙◌, subst, arith, ◌==◌, ◌&&◌, false, inl, inr}
+use Rattle.std.proofs.Common.{◌≡◌, ℕ, zero, suc, ◌-◌, ◌<◌, ◌≤◌, ◌↔◌, List, [], ◌∷◌, ◌++◌, length, take, drop, reverse, Option, Some, None, refl, sym, ap, ◌∙◌, subst, arith, ◌==◌, ◌&&◌, Bool, true, false, if◌then◌else◌, eqb-true, inl, inr}
 use Rattle.std.specs.Option.{option_to_list}
 use Rattle.std.specs.List.{All}
 use Rattle.std.specs.FinMap.{empty}
@@ -7,7 +7,7 @@ use Rattle.std.proofs.lemmas.List.{take-append-le, length-take-le, reverse-appen
 use Rattle.std.proofs.lemmas.List.Elements.{All-nil, All-take}
 use Rattle.rl_value.specs.Plain.{Plain}
 use Rattle.rl_store.specs.Scope.{Scope, value_at, changed_at}
-use Rattle.rl_store.specs.Rooms.{LastNotes, last_note_at, HasRoom, KeepsLastNotes, SetsLastNote}
+use Rattle.rl_store.specs.Rooms.{LastNotes, last_note_at, HasRoom, KeepsLastNotes, KeepsOtherNotes, SetsLastNote}
 use Rattle.rl_store.specs.Store.{PlainStore, Key, laid, laid_entries, noting, setting, opened, closed, marked, rolled_back, released, IsClosable, IsOpenedSince, IsLaid}
 use Rattle.rl_store.specs.Journal.{entries_of, HasRoomIn, newest_first, marks_of, IsJournal, IsLast, AreLast, Notes, NotesSince, passed_down, floor_of}
 use Rattle.rl_store.specs.declared.journal.Note.{Note}
@@ -67,6 +67,44 @@ other_last_since (Some m) p x o old new l q y c b h = other_last m p x o old new
 pub last_notes_set : (newest : Option MarkAt) (p x l : ℕ) (o : Option Plain) (old new : List Note) (hs ks ls : List LastNotes) → NotesSince newest (p, x) o old new → KeepsLastNotes hs ks → SetsLastNote ks ls p x l → IsLast new l p x → AreLast old hs → AreLast new ls
 last_notes_set newest p x l o old new hs ks ls c k s h a =
     are_last_set new ks ls l p x s h (λ q y b. other_last_since newest p x o old new (last_note_at ks q y) q y c b (are_last_keeps old hs ks k a q y))
+
+both_true : (b c : Bool) → (b && c) ≡ true → (b ≡ true) × (c ≡ true)
+both_true true true e = (refl, refl)
+both_true true false e = (cc)
+both_true false c e = (cc)
+
+-- the last note of one variable, where those of the others stay
+sets_one : (hs ls : List LastNotes) (p x : ℕ) → KeepsOtherNotes hs ls p x → SetsLastNote hs ls p x (last_note_at ls p x)
+sets_one hs ls p x k q y = by ((p == q) && (x == y)) refl
+  where
+    by : (b : Bool) → ((p == q) && (x == y)) ≡ b → last_note_at ls q y ≡ (if b then last_note_at ls p x else last_note_at hs q y)
+    by true e = let t = both_true (p == q) (x == y) e in (λ i. last_note_at ls (sym (eqb-true p q t.0) i) (sym (eqb-true x y t.1) i))
+    by false e = k q y e
+
+keeps_all : (hs ls : List LastNotes) (p x : ℕ) → KeepsOtherNotes hs ls p x → last_note_at ls p x ≡ last_note_at hs p x → KeepsLastNotes hs ls
+keeps_all hs ls p x k h q y = by ((p == q) && (x == y)) refl
+  where
+    by : (b : Bool) → ((p == q) && (x == y)) ≡ b → last_note_at ls q y ≡ last_note_at hs q y
+    by true e =
+        let t = both_true (p == q) (x == y) e in
+        (λ i. last_note_at ls (sym (eqb-true p q t.0) i) (sym (eqb-true x y t.1) i)) ∙ h ∙ (λ i. last_note_at hs (eqb-true p q t.0 i) (eqb-true x y t.1 i))
+    by false e = k q y e
+
+pub last_notes_written : (newest : Option MarkAt) (p x : ℕ) (o : Option Plain) (old new : List Note) (hs ls : List LastNotes) → NotesSince newest (p, x) o old new → KeepsOtherNotes hs ls p x → IsLast new (last_note_at ls p x) p x → AreLast old hs → AreLast new ls
+last_notes_written newest p x o old new hs ls c k h a = last_notes_set newest p x (last_note_at ls p x) o old new hs hs ls c (λ q y. refl) (sets_one hs ls p x k) h a
+
+pub last_notes_kept : (p x : ℕ) (old new : List Note) (hs ls : List LastNotes) → new ≡ old → KeepsOtherNotes hs ls p x → last_note_at ls p x ≡ last_note_at hs p x → AreLast old hs → AreLast new ls
+last_notes_kept p x old new hs ls e k h a =
+    let P : List Note → Type 0 = λ ns. AreLast ns ls in
+    subst P (sym e) (are_last_keeps old hs ls (keeps_all hs ls p x k h) a)
+
+pub journal_kept : (ms : List MarkAt) (old new : List Note) (ss us : List Scope) → us ≡ ss → new ≡ old → IsJournal ms old (length ss) → IsJournal ms new (length us)
+journal_kept ms old new ss us e n j =
+    let P : List Note × List Scope → Type 0 = λ t. IsJournal ms t.0 (length t.1) in
+    subst P (λ i. (sym n i, sym e i)) j
+
+pub room_kept : (old new : List Note) (rs qs : List (List ℕ)) → new ≡ old → ((q y : ℕ) → HasRoom rs q y → HasRoom qs q y) → All (HasRoomIn rs) old → All (HasRoomIn qs) new
+room_kept old new rs qs n stays a = subst (All (HasRoomIn qs)) (sym n) (room-stays old rs qs stays a)
 
 -- open and close
 

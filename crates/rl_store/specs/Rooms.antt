@@ -1,5 +1,5 @@
 -- Variables that have room for a value, so that setting one needs no memory, and where their last notes stand.
-use Rattle.std.specs.Prelude.{ℕ, zero, suc, Bool, IsTrue, List, [], ◌∷◌, refl, ◌≡◌, ◌==◌, ◌&&◌, if◌then◌else◌}
+use Rattle.std.specs.Prelude.{ℕ, zero, suc, Bool, false, IsTrue, List, [], ◌∷◌, refl, ◌≡◌, ◌==◌, ◌&&◌, if◌then◌else◌}
 use Rattle.std.specs.List.{list_any}
 use Rattle.std.specs.Map.{lookup}
 use Rattle.std.specs.Option.{unwrap_or}
@@ -63,3 +63,8 @@ KeepsLastNotes old new = (p x : ℕ) → last_note_at new p x ≡ last_note_at o
 abbrev pub SetsLastNote : List LastNotes → List LastNotes → ℕ → ℕ → ℕ → Type 0
 SetsLastNote old new place variable last_note =
     (p x : ℕ) → last_note_at new p x ≡ (if (place == p) && (variable == x) then last_note else last_note_at old p x)
+
+-- all but this variable of the scope with this place have the last notes that they had
+abbrev pub KeepsOtherNotes : List LastNotes → List LastNotes → ℕ → ℕ → Type 0
+KeepsOtherNotes old new place variable =
+    (p x : ℕ) → ((place == p) && (variable == x)) ≡ false → last_note_at new p x ≡ last_note_at old p x

@@ -2,9 +2,7 @@
 
 ghost use Rattle.std.specs.Prelude.{◌≡◌, ◌≤◌, ◌<◌, ◌++◌, length, take, drop, filter, All, IfOk, OnOk, OnErr};
 ghost use Rattle.std.specs.Option.{option_copied, option_to_list};
-ghost use Rattle.rl_store.specs.Scope.{value_at};
 ghost use Rattle.rl_store.specs.Store.{laid_entries};
-ghost use Rattle.rl_store.specs.Rooms.{last_note_at};
 ghost use Rattle.rl_store.specs.Journal.{floor_of, is_of, is_noted, is_taken, entries_of, HasRoomIn, IsLast, AreLast, IsLinked, Notes, NotesSince, passed_down};
 
 use crate::scopes::Scopes;
@@ -20,6 +18,14 @@ pub(crate) struct Note {
     pub(crate) before: Option<Value>,
     /// One more than the place of the variable's last note before this one.
     pub(crate) earlier: usize,
+}
+
+/// A variable of a scope.
+#[derive(Clone, Copy)]
+pub(crate) struct At {
+    /// The place of the scope.
+    pub(crate) place: usize,
+    pub(crate) variable: usize,
 }
 
 /// How much there was at a mark.
@@ -76,23 +82,22 @@ fn share(value: Option<&Value>) -> Result<Option<Value>, AllocError>
 
 // Notes what the variable has, unless the newest mark needs no note of it. Answers one more than the place of its last note.
 fn note_under(
-    scopes: &Scopes,
     notes: &mut Vec<Note>,
     newest: MarkAt,
-    place: usize,
-    variable: usize,
+    at: At,
+    earlier: usize,
+    has: Option<&Value>,
 ) -> Result<usize, AllocError>
-    requires place { place < length scopes.now.scopes }
-    requires last_note { IsLast notes.old.items (last_note_at scopes.now.last_notes place variable) place variable }
-    ensures last_note { IfOk result (λ last_note. IsLast notes.new.items last_note place variable) }
-    ensures ok { OnOk result (Notes newest (place, variable) (value_at scopes.now.scopes place variable) notes.old.items notes.new.items) }
+    requires { IsLast notes.old.items earlier at.place at.variable }
+    ensures last_note { IfOk result (λ last_note. IsLast notes.new.items last_note at.place at.variable) }
+    ensures ok { OnOk result (Notes newest (at.place, at.variable) (option_copied has.entry) notes.old.items notes.new.items) }
     ensures err { OnErr result (notes.new.items ≡ notes.old.items) }
 {
-    let earlier = scopes.last_note(place, variable);
+    let At { place, variable } = at;
     if place >= newest.scopes || is_noted(notes, newest.notes, earlier, place, variable) {
         return Ok(earlier);
     }
-    let before = share(scopes.value(place, variable))?;
+    let before = share(has)?;
     notes.push(Note {
         place,
         variable,
@@ -104,21 +109,20 @@ fn note_under(
 
 /// Notes what the variable has, where a mark is live that needs a note of it. Answers one more than the place of its last note.
 pub(crate) fn note_before(
-    scopes: &Scopes,
     notes: &mut Vec<Note>,
     newest: Option<MarkAt>,
-    place: usize,
-    variable: usize,
+    at: At,
+    earlier: usize,
+    has: Option<&Value>,
 ) -> Result<usize, AllocError>
-    requires place { place < length scopes.now.scopes }
-    requires last_note { IsLast notes.old.items (last_note_at scopes.now.last_notes place variable) place variable }
-    ensures last_note { IfOk result (λ last_note. IsLast notes.new.items last_note place variable) }
-    ensures ok { OnOk result (NotesSince newest (place, variable) (value_at scopes.now.scopes place variable) notes.old.items notes.new.items) }
+    requires { IsLast notes.old.items earlier at.place at.variable }
+    ensures last_note { IfOk result (λ last_note. IsLast notes.new.items last_note at.place at.variable) }
+    ensures ok { OnOk result (NotesSince newest (at.place, at.variable) (option_copied has.entry) notes.old.items notes.new.items) }
     ensures err { OnErr result (notes.new.items ≡ notes.old.items) }
 {
     match newest {
-        Some(newest) => note_under(scopes, notes, newest, place, variable),
-        None => Ok(scopes.last_note(place, variable)),
+        Some(newest) => note_under(notes, newest, at, earlier, has),
+        None => Ok(earlier),
     }
 }
 

@@ -3,9 +3,11 @@
 ghost use Rattle.std.specs.Prelude.{◌≡◌, ℕ, ◌<◌, ◌≤◌, [], ◌∷◌, ◌++◌, length, take, IsTrue, Some, OnOk, OnErr};
 ghost use Rattle.std.specs.Option.{option_copied};
 ghost use Rattle.std.specs.FinMap.{empty};
-ghost use Rattle.rl_store.specs.Scope.{value_at, changed_at, place_of};
-ghost use Rattle.rl_store.specs.Rooms.{HasRoom, last_note_at, KeepsLastNotes, SetsLastNote};
+ghost use Rattle.rl_store.specs.Scope.{value_at, value_of, changed_at, place_of};
+ghost use Rattle.rl_store.specs.Rooms.{HasRoom, last_note_at, KeepsLastNotes, KeepsOtherNotes, SetsLastNote};
+ghost use Rattle.rl_store.specs.Journal.{IsLast, NotesSince};
 
+use crate::journal::{At, MarkAt, Note};
 use crate::slots::Slots;
 use rl_value::Value;
 use std::alloc::{AllocError, Global};
@@ -67,16 +69,19 @@ impl Scopes {
         }
     }
 
-    /// The last note of the variable in the scope with this place, as it was set, or 0.
-    pub(crate) fn last_note(&self, place: usize, variable: usize) -> usize
-        requires { place < length self.now.scopes }
-        ensures { result ≡ last_note_at self.now.last_notes place variable }
+    /// The value of the variable in the innermost scope that has it; None where no scope has it.
+    pub(crate) fn innermost_value(&self, variable: usize) -> Option<&Value>
+        ensures { option_copied result ≡ value_of self.now.scopes variable }
     {
-        if place == 0 {
-            self.first.last_note(variable)
-        } else {
-            self.inner[place - 1].last_note(variable)
+        let mut place = self.len();
+        while place > 0 {
+            place -= 1;
+            let found = self.value(place, variable);
+            if found.is_some() {
+                return found;
+            }
         }
+        None
     }
 
     /// The place of the innermost scope that has the variable, or 0.
@@ -91,18 +96,31 @@ impl Scopes {
         place
     }
 
-    /// Makes room for a value of the variable in the scope with this place.
-    pub(crate) fn make_room(&mut self, place: usize, variable: usize) -> Result<(), AllocError>
-        requires { place < length self.old.scopes }
-        ensures scopes { self.new.scopes ≡ self.old.scopes }
-        ensures room { OnOk result (HasRoom self.new.rooms place variable) }
+    /// Sets the variable of the scope with this place, after what it has is noted where the newest mark needs it. A refusal
+    /// changes no value.
+    pub(crate) fn write(
+        &mut self,
+        v: Value,
+        notes: &mut Vec<Note>,
+        newest: Option<MarkAt>,
+        at: At,
+    ) -> Result<(), AllocError>
+        requires place { at.place < length self.old.scopes }
+        requires last_note { IsLast notes.old.items (last_note_at self.old.last_notes at.place at.variable) at.place at.variable }
+        ensures scopes { OnOk result (self.new.scopes ≡ changed_at self.old.scopes at.place at.variable (Some v)) }
+        ensures room { OnOk result (HasRoom self.new.rooms at.place at.variable) }
         ensures stays { (p x : ℕ) → HasRoom self.old.rooms p x → HasRoom self.new.rooms p x }
-        ensures last_notes { KeepsLastNotes self.old.last_notes self.new.last_notes }
+        ensures last_note { OnOk result (IsLast notes.new.items (last_note_at self.new.last_notes at.place at.variable) at.place at.variable) }
+        ensures others { KeepsOtherNotes self.old.last_notes self.new.last_notes at.place at.variable }
+        ensures notes { OnOk result (NotesSince newest (at.place, at.variable) (value_at self.old.scopes at.place at.variable) notes.old.items notes.new.items) }
+        ensures same { OnErr result (self.new.scopes ≡ self.old.scopes) }
+        ensures same_note { OnErr result (last_note_at self.new.last_notes at.place at.variable ≡ last_note_at self.old.last_notes at.place at.variable) }
+        ensures same_notes { OnErr result (notes.new.items ≡ notes.old.items) }
     {
-        if place == 0 {
-            self.first.make_room(variable)
+        if at.place == 0 {
+            self.first.write(v, notes, newest, at)
         } else {
-            self.inner[place - 1].make_room(variable)
+            self.inner[at.place - 1].write(v, notes, newest, at)
         }
     }
 

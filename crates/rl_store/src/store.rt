@@ -1,12 +1,12 @@
 //! Stores.
 
-ghost use Rattle.std.specs.Prelude.{◌≡◌, ◌<◌, ◌↔◌, [], ◌∷◌, length, IsTrue, OnOk, OnErr};
+ghost use Rattle.std.specs.Prelude.{◌≡◌, ◌<◌, ◌≤◌, ◌↔◌, [], ◌∷◌, length, IsTrue, OnOk, OnErr};
 ghost use Rattle.std.specs.Option.{option_copied};
 ghost use Rattle.std.specs.FinMap.{empty};
-ghost use Rattle.rl_store.specs.Scope.{value_of};
+ghost use Rattle.rl_store.specs.Scope.{value_at, value_of};
 ghost use Rattle.rl_store.specs.Store.{setting, declared, written, opened, closed, marked, rolled_back, released, HasMark, IsClosable, IsLaid};
 
-use crate::journal::{MarkAt, Note, add_older, floor_of, note_before, pass_down, restore};
+use crate::journal::{At, MarkAt, Note, add_older, floor_of, pass_down, restore};
 use crate::scopes::Scopes;
 use rl_value::Value;
 use std::alloc::{AllocError, Global};
@@ -55,19 +55,34 @@ impl Store {
     pub fn read(&self, variable: usize) -> Option<&Value>
         ensures { option_copied result ≡ value_of self.now.scopes variable }
     {
-        self.scopes.value(self.scopes.place_of(variable), variable)
+        self.scopes.innermost_value(variable)
     }
 
-    // Sets the variable in the scope with this place. A refusal changes nothing.
-    fn set(&mut self, place: usize, variable: usize, v: Value) -> Result<(), AllocError>
+    /// How many scopes there are.
+    pub fn scope_count(&self) -> usize
+        ensures count { result ≡ length self.now.scopes }
+        ensures some { 1 ≤ result }
+    {
+        self.scopes.len()
+    }
+
+    /// The value of the variable in the scope with this place, counted from the first, which has the place 0. None where that
+    /// scope does not have it.
+    pub fn value(&self, place: usize, variable: usize) -> Option<&Value>
+        requires { place < length self.now.scopes }
+        ensures { option_copied result ≡ value_at self.now.scopes place variable }
+    {
+        self.scopes.value(place, variable)
+    }
+
+    /// Sets the variable in the scope with this place, over a value that stands there. A refusal changes nothing.
+    pub fn set(&mut self, place: usize, variable: usize, v: Value) -> Result<(), AllocError>
         requires { place < length self.old.scopes }
         ensures ok { OnOk result (self.new ≡ setting self.old place variable v) }
         ensures err { OnErr result (self.new ≡ self.old) }
     {
-        self.scopes.make_room(place, variable)?;
-        let last_note = note_before(&self.scopes, &mut self.notes, self.newest, place, variable)?;
-        self.scopes.set(place, variable, Some(v), last_note);
-        Ok(())
+        let at = At { place, variable };
+        self.scopes.write(v, &mut self.notes, self.newest, at)
     }
 
     /// Sets the variable in the innermost scope, over a value that stands there. A refusal changes nothing.

@@ -1,6 +1,5 @@
-use Rattle.std.proofs.Common.{◌≡◌, ◌<◌, ℕ, arith, refl, sym, ap, ◌∙◌, subst, inl, inr, false, drop}
-use Rattle.rl_store.specs.Scope.{value_at}
-use Rattle.rl_store.specs.Journal.{is_noted, IsLast, HasNoNote}
+use Rattle.std.proofs.Common.{◌≡◌, ◌<◌, arith, refl, sym, ap, ◌∙◌, inl, inr, false, drop}
+use Rattle.rl_store.specs.Journal.{is_noted, HasNoNote}
 use Rattle.rl_store.specs.declared.journal.Note.{Note}
 use Rattle.rl_store.proofs.JournalLemmas.{is_noted-find}
 use Rattle.rl_store.proofs.LastNotes.{not_noted, last_before}
@@ -13,27 +12,24 @@ returns-then-place-newest-clause-ok c = elim c.then-place-newest.branch [
   | then-place-newest-via-else-place-newest+then-is_noted w ↦
       inl (
         refl,
-        inr (is_noted-find c.args.notes.now.items c.args.newest.notes c.last_note-earlier.result c.args.place c.args.variable
-            (sym (w.is_noted.ensures ∙ ap (λ ns. is_noted ns c.args.newest.notes c.last_note-earlier.result c.args.place c.args.variable) w.deref.ensures.value) ∙ w.if-is_noted.true)),
+        inr (is_noted-find c.args.notes.now.items c.args.newest.notes c.args.earlier c.args.at.place c.args.at.variable
+            (sym (w.is_noted.ensures ∙ ap (λ ns. is_noted ns c.args.newest.notes c.args.earlier c.args.at.place c.args.at.variable) w.deref.ensures.value) ∙ w.if-is_noted.true)),
       )
 ]
 
 pub returns-clause-ok : goal.returns-clause-ok
 returns-clause-ok c =
-    let P : ℕ → Type 0 = λ l. IsLast c.args.notes.now.items l c.args.place c.args.variable in
-    let last : IsLast c.args.notes.now.items c.last_note-earlier.result c.args.place c.args.variable = subst P (sym c.last_note-earlier.ensures) c.requires.last_note in
-    let free : is_noted c.args.notes.now.items c.args.newest.notes c.last_note-earlier.result c.args.place c.args.variable ≡ false =
-    sym (c.is_noted.ensures ∙ ap (λ ns. is_noted ns c.args.newest.notes c.last_note-earlier.result c.args.place c.args.variable) c.deref.ensures.value) ∙ c.if-is_noted.false in
-    let none : HasNoNote (drop c.args.newest.notes c.args.notes.now.items) (c.args.place, c.args.variable) =
-    not_noted c.args.notes.now.items c.args.newest.notes c.last_note-earlier.result c.args.place c.args.variable last free in
-    let before : c.in_ok-before.before ≡ value_at c.args.scopes.now.scopes c.args.place c.args.variable = c.in_ok-before.ensures ∙ c.value.ensures in
-    let n : Note = record { place = c.args.place; variable = c.args.variable; before = c.in_ok-before.before; earlier = c.last_note-earlier.result } in
-    let below : c.args.place < c.args.newest.scopes = omega (arith, c.if-place-newest.false) in
+    let free : is_noted c.args.notes.now.items c.args.newest.notes c.args.earlier c.args.at.place c.args.at.variable ≡ false =
+    sym (c.is_noted.ensures ∙ ap (λ ns. is_noted ns c.args.newest.notes c.args.earlier c.args.at.place c.args.at.variable) c.deref.ensures.value) ∙ c.if-is_noted.false in
+    let none : HasNoNote (drop c.args.newest.notes c.args.notes.now.items) (c.args.at.place, c.args.at.variable) =
+    not_noted c.args.notes.now.items c.args.newest.notes c.args.earlier c.args.at.place c.args.at.variable c.requires free in
+    let n : Note = record { place = c.args.at.place; variable = c.args.at.variable; before = c.in_ok-before.before; earlier = c.args.earlier } in
+    let below : c.args.at.place < c.args.newest.scopes = omega (arith, c.if-place-newest.false) in
     inr (
       n,
       c.in_ok-push.ensures.items,
-      λ i. ((c.args.place, c.args.variable), before i),
+      λ i. ((c.args.at.place, c.args.at.variable), c.in_ok-before.ensures i),
       below,
       none,
-      last_before c.args.notes.now.items c.args.newest.notes c.last_note-earlier.result c.args.place c.args.variable none last,
+      last_before c.args.notes.now.items c.args.newest.notes c.args.earlier c.args.at.place c.args.at.variable none c.requires,
     )
